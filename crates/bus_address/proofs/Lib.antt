@@ -1,0 +1,12 @@
+pub mod Choices
+pub mod GuidLemmas
+pub mod EscapeLemmas
+pub mod ListLemmas
+pub mod TextLemmas
+pub mod EntryLemmas
+pub mod ArgumentLemmas
+pub mod ValueLemmas
+pub mod AddressLemmas
+pub mod RoundTrip
+pub mod ReadBackLemmas
+pub mod Fronts

@@ -1,0 +1,13 @@
+pub mod Guid
+pub mod Escapes
+pub mod Errors
+pub mod Parts
+pub mod Entries
+pub mod Printed
+pub mod Values
+pub mod Address
+pub mod Reading
+pub mod Lookups
+pub mod Defaults
+pub mod ReadBack
+pub mod Plain

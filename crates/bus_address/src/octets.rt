@@ -1,0 +1,145 @@
+//! Bytes and texts that an address holds.
+
+ghost use Rattle.std.specs.Prelude.{◌≡◌, nat_eq, map};
+ghost use Rattle.std.specs.String.{string_bytes};
+ghost use Rattle.std.specs.Cmp.Lexicographic.{pointwise};
+ghost use Rattle.std.specs.Cmp.Rules.{comparing};
+ghost use Rattle.std.proofs.Common.{rules};
+
+use std::marker::Model;
+
+/// A string of bytes, as a path or a name, which contracts see as the list of its bytes.
+#[derive(Debug, Drop)]
+pub struct Octets {
+    bytes: Vec<u8>,
+}
+
+impl Model for Octets {
+    ghost use Rattle.std.specs.Prelude.{ℕ, List};
+
+    ghost Value = { List ℕ };
+
+    ghost view = { λ o. o.bytes.items };
+}
+
+impl Octets {
+    /// The bytes of a vector.
+    pub fn from_vec(v: Vec<u8>) -> Octets
+        ensures { result ≡ v.items }
+    {
+        Octets { bytes: v }
+    }
+
+    /// The bytes.
+    pub fn as_slice(&self) -> &[u8]
+        ensures { result.now ≡ self.now }
+    {
+        self.bytes.as_slice()
+    }
+
+    /// The bytes, as a vector.
+    pub(crate) fn into_vec(self) -> Vec<u8>
+        ensures { result.items ≡ self }
+    {
+        self.bytes
+    }
+}
+
+impl PartialEq for Octets {
+    ghost eq = { pointwise nat_eq };
+
+    ghost laws = { Prim.search (comparing, rules) };
+
+    fn eq(&self, other: &Octets) -> bool {
+        self.as_slice() == other.as_slice()
+    }
+}
+
+impl Eq for Octets {
+    ghost laws = { Prim.search (comparing, rules) };
+}
+
+/// A text, which contracts see as the list of its bytes.
+#[derive(Debug, Drop)]
+pub(crate) struct Text {
+    text: String,
+}
+
+impl Model for Text {
+    ghost use Rattle.std.specs.Prelude.{ℕ, List};
+    ghost use Rattle.std.specs.String.{string_bytes};
+
+    ghost Value = { List ℕ };
+
+    ghost view = { λ t. string_bytes t.text };
+}
+
+impl Text {
+    pub fn from_string(text: String) -> Text
+        ensures { result ≡ string_bytes text }
+    {
+        Text { text }
+    }
+
+    pub fn as_str(&self) -> &str
+        ensures { result.now ≡ self.now }
+    {
+        self.text.as_str()
+    }
+}
+
+impl PartialEq for Text {
+    ghost eq = { pointwise nat_eq };
+
+    ghost laws = { Prim.search (comparing, rules) };
+
+    fn eq(&self, other: &Text) -> bool {
+        self.as_str() == other.as_str()
+    }
+}
+
+impl Eq for Text {
+    ghost laws = { Prim.search (comparing, rules) };
+}
+
+/// Strings of bytes in order, which contracts see as a list of lists.
+#[derive(Debug, Drop)]
+pub(crate) struct OctetList {
+    items: Vec<Vec<u8>>,
+}
+
+impl Model for OctetList {
+    ghost use Rattle.std.specs.Prelude.{ℕ, List, map};
+
+    ghost Value = { List (List ℕ) };
+
+    ghost view = { λ l. map (λ v. v.items) l.items.items };
+}
+
+impl OctetList {
+    pub fn from_vec(items: Vec<Vec<u8>>) -> OctetList
+        ensures { result ≡ map (λ v. v.items) items.items }
+    {
+        OctetList { items }
+    }
+
+    pub fn as_slice(&self) -> &[Vec<u8>]
+        ensures { map (λ v. v.items) result.now ≡ self.now }
+    {
+        self.items.as_slice()
+    }
+}
+
+impl PartialEq for OctetList {
+    ghost eq = { pointwise (pointwise nat_eq) };
+
+    ghost laws = { Prim.search (comparing, rules) };
+
+    fn eq(&self, other: &OctetList) -> bool {
+        self.as_slice() == other.as_slice()
+    }
+}
+
+impl Eq for OctetList {
+    ghost laws = { Prim.search (comparing, rules) };
+}

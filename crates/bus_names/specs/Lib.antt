@@ -1,0 +1,7 @@
+pub mod Answers
+pub mod BusNames
+pub mod Decides
+pub mod Errors
+pub mod Grammar
+pub mod Refusals
+pub mod ValidNames

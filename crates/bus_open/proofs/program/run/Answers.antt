@@ -1,0 +1,55 @@
+use Rattle.std.proofs.Common.{◌≡◌, inl, inr, refl, sym, rules, Ok, map}
+use Rattle.std.specs.String.{string_bytes}
+use Rattle.bus_open.specs.Commands.{asked}
+use Rattle.bus_open.specs.declared.command.Command.TheVariants.{Play}
+use Rattle.bus_open.proofs.Cuts.{keeps_same}
+use Rattle.bus_open.proofs.Following.{plays}
+use Rattle.bus_open.proofs.program.run.Goals as goal
+
+pub returns-in-Err-clause-refused : goal.returns-in-Err-clause-refused
+returns-in-Err-clause-refused g c = λ two. (
+  record { line = 0; reason = c.in-Err.reason },
+  inl (keeps_same (g.S.Source.left c.args.source.now), refl, sym c.in-Err.ensures.answer),
+  c.refuse.ensures.text two,
+)
+
+pub returns-in-Ok-from_script-clause-opened : goal.returns-in-Ok-from_script-clause-opened
+returns-in-Ok-from_script-clause-opened g c = λ zero.
+    let is_asked : asked (map string_bytes c.args.words.now) ≡ Ok Play = search rules in
+    let came = c.perform.ensures.opened zero in (
+      came.0,
+      came.1,
+      plays (map string_bytes c.args.words.now) (g.S.Source.left c.args.source.now) (g.S.Source.left c.read_all.new.source) c.in-Ok.text.items c.in-Ok-from_script.played came.0 came.1 is_asked c.in-Ok.ensures.bytes c.in-Ok.ensures.end (rw (← c.as_slice.ensures.value) c.in-Ok-from_script.ensures.script) came.2 came.3,
+      came.4,
+      came.5,
+    )
+
+pub returns-in-Ok-from_script-clause-other : goal.returns-in-Ok-from_script-clause-other
+returns-in-Ok-from_script-clause-other g c = λ one.
+    let is_asked : asked (map string_bytes c.args.words.now) ≡ Ok Play = search rules in
+    let came = c.perform.ensures.other one in (
+      came.0,
+      came.1,
+      plays (map string_bytes c.args.words.now) (g.S.Source.left c.args.source.now) (g.S.Source.left c.read_all.new.source) c.in-Ok.text.items c.in-Ok-from_script.played came.0 came.1 is_asked c.in-Ok.ensures.bytes c.in-Ok.ensures.end (rw (← c.as_slice.ensures.value) c.in-Ok-from_script.ensures.script) came.2 came.3,
+      came.4,
+      came.5,
+    )
+
+pub returns-in-Ok-from_script-clause-write_fault : goal.returns-in-Ok-from_script-clause-write_fault
+returns-in-Ok-from_script-clause-write_fault g c = λ four.
+    let is_asked : asked (map string_bytes c.args.words.now) ≡ Ok Play = search rules in
+    let came = c.perform.ensures.failed four in (
+      came.0,
+      came.1,
+      plays (map string_bytes c.args.words.now) (g.S.Source.left c.args.source.now) (g.S.Source.left c.read_all.new.source) c.in-Ok.text.items c.in-Ok-from_script.played came.0 came.1 is_asked c.in-Ok.ensures.bytes c.in-Ok.ensures.end (rw (← c.as_slice.ensures.value) c.in-Ok-from_script.ensures.script) came.2 came.3,
+      came.4,
+      came.5,
+    )
+
+pub returns-in-Err-Refused-clause-refused : goal.returns-in-Err-Refused-clause-refused
+returns-in-Err-Refused-clause-refused g c = λ two.
+    let is_asked : asked (map string_bytes c.args.words.now) ≡ Ok Play = search rules in (
+      record { line = c.in-Err-Refused.line; reason = c.in-Err-Refused.reason },
+      inr (is_asked, (c.in-Ok.text.items, record { taken = c.in-Ok.ensures.bytes; whole = c.in-Ok.ensures.end }, rw (← c.as_slice.ensures.value) (rw c.in-Err-Refused.field-0-is at c.in-Err-Refused.ensures.refused))),
+      c.refuse-in-Err-Refused.ensures.text two,
+    )

@@ -1,0 +1,5 @@
+pub mod Streams
+pub mod Memory
+pub mod Whole
+pub mod Commands
+pub mod Run

@@ -1,0 +1,140 @@
+//! What the words of a command line ask for.
+
+ghost use Rattle.std.specs.Prelude.{◌≡◌, ◌^◌, ◌∷◌, [], IfOk, map, string_bytes};
+ghost use Rattle.bus_script.specs.Words.{number_of};
+ghost use Rattle.bus_open.specs.Commands.{asked, command, kind_of};
+ghost use Rattle.bus_open.specs.declared.command.Command.TheVariants.{Play};
+
+use bus_script::Reason;
+
+/// What the program is asked to do.
+#[derive(Clone, Copy, Debug, PartialEq, Eq)]
+pub enum Command {
+    /// `play`: reads a script, runs it, and writes the endings and the events.
+    Play,
+    /// `open`: reads sessions, runs them over real things, and writes the endings.
+    Open,
+    /// `bulk N`: runs so many sessions of its own making, and writes a summary.
+    Bulk(u32),
+    /// `check KIND TEXT`: reads the text as one of its kind, and writes what it is.
+    Check(Kind),
+}
+
+/// What a text is read as.
+#[derive(Clone, Copy, Debug, PartialEq, Eq)]
+pub enum Kind {
+    Signature,
+    Address,
+    BusName,
+    UniqueName,
+    WellKnownName,
+    InterfaceName,
+    MemberName,
+    PropertyName,
+    ErrorName,
+}
+
+/// The greatest count of sessions that `bulk` makes.
+const MOST_SESSIONS: u32 = 10_000;
+
+impl Command {
+    /// The command that these words name, where they name one.
+    pub fn from_words(words: &[String]) -> Option<Command>
+        ensures { result ≡ command (map string_bytes words.now) }
+    {
+        match words {
+            [name] => alone(name.as_str()),
+            [name, count] => with_count(name.as_str(), count.as_str()),
+            [name, kind, text] => with_text(name.as_str(), kind.as_str(), text.as_str()),
+            _ => None,
+        }
+    }
+}
+
+impl Kind {
+    /// The kind that this word names, where it names one.
+    pub fn from_word(word: &str) -> Option<Kind>
+        ensures { result ≡ kind_of word.now }
+    {
+        match word {
+            "signature" => Some(Kind::Signature),
+            "address" => Some(Kind::Address),
+            "bus" => Some(Kind::BusName),
+            "unique" => Some(Kind::UniqueName),
+            "well-known" => Some(Kind::WellKnownName),
+            "interface" => Some(Kind::InterfaceName),
+            "member" => Some(Kind::MemberName),
+            "property" => Some(Kind::PropertyName),
+            "error" => Some(Kind::ErrorName),
+            _ => None,
+        }
+    }
+}
+
+/// What the words ask for, or why they are refused. Of the commands, `play` alone is built.
+pub fn asked(words: &[String]) -> Result<Command, Reason>
+    ensures answer { result ≡ asked (map string_bytes words.now) }
+    ensures built { IfOk result (λ command. command ≡ Play) }
+{
+    match Command::from_words(words) {
+        Some(Command::Play) => Ok(Command::Play),
+        Some(_) => Err(Reason::NotBuilt),
+        None => Err(Reason::Words),
+    }
+}
+
+fn alone(name: &str) -> Option<Command>
+    ensures { result ≡ command (name.now ∷ []) }
+{
+    match name {
+        "play" => Some(Command::Play),
+        "open" => Some(Command::Open),
+        _ => None,
+    }
+}
+
+fn with_count(name: &str, count: &str) -> Option<Command>
+    ensures { result ≡ command (name.now ∷ count.now ∷ []) }
+{
+    match name {
+        "bulk" => bulk_count(count).map(Command::Bulk),
+        _ => None,
+    }
+}
+
+/// A number without a sign and without a zero in front.
+#[tactic(auto, using(bus_script::proofs::Numbers::number_empty, bus_script::proofs::Numbers::number_plus, bus_script::proofs::Numbers::number_zero, bus_script::proofs::Numbers::number_parsed))]
+fn plain_number(word: &str) -> Option<u32>
+    ensures { result ≡ number_of (2 ^ 32) word.now }
+{
+    let bytes = word.as_bytes();
+    if bytes.is_empty() {
+        return None;
+    }
+    if bytes[0] == b'+' {
+        return None;
+    }
+    if bytes[0] == b'0' && bytes.len() != 1 {
+        return None;
+    }
+    word.parse::<u32>().ok()
+}
+
+fn bulk_count(word: &str) -> Option<u32>
+    ensures { result ≡ number_of 10001 word.now }
+{
+    let count = plain_number(word)?;
+    if count > MOST_SESSIONS {
+        return None;
+    }
+    Some(count)
+}
+
+fn with_text(name: &str, kind: &str, _text: &str) -> Option<Command>
+    ensures { result ≡ command (name.now ∷ kind.now ∷ _text.now ∷ []) }
+{
+    match name {
+        "check" => Kind::from_word(kind).map(Command::Check),
+        _ => None,
+    }
+}

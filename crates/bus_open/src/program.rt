@@ -1,0 +1,190 @@
+//! The program: words and a script in, the endings and the events out.
+
+ghost use Rattle.std.specs.Prelude.{◌≡◌, ◌≢◌, ◌≤◌, ◌<◌, ◌^◌, ◌⊎◌, [], ℕ, List, length, true, false, map, string_bytes, Ok, Err};
+ghost use Rattle.std.specs.List.{list_all};
+ghost use Rattle.std.specs.Io.KnownBytes.{Appends, Keeps};
+ghost use Rattle.react_core.specs.Told.{Rose};
+ghost use Rattle.react_core.specs.declared.outside.Event.{Event};
+ghost use Rattle.bus_script.specs.Script.{Refused};
+ghost use Rattle.bus_script.specs.Printed.{printed, refusal};
+ghost use Rattle.bus_script.specs.declared.ended.Ended.{Ended};
+ghost use Rattle.bus_script.specs.declared.line.Reason.{Reason};
+ghost use Rattle.bus_peers.specs.Plays.{Follows, HasNoPollerFault};
+ghost use Rattle.bus_peers.specs.Headline.{Headline};
+ghost use Rattle.bus_peers.specs.Sessions.{is_built};
+ghost use Rattle.bus_open.specs.Streams.{GainsFront, GainsOrFails, LosesFront};
+ghost use Rattle.bus_open.specs.Commands.{asked};
+ghost use Rattle.bus_open.specs.Run.{Plays, IsRefused, all_open, is_open};
+ghost use Rattle.bus_open.specs.declared.command.Command.TheVariants.{Play};
+
+use crate::command::asked;
+use crate::refusal::refuse;
+use crate::status;
+use crate::stream::{Sink, Source};
+use crate::whole::{ReadError, read_all, write_all};
+use bus_peers::{OpenError, Played, Scene, faultless, open_all};
+use bus_script::{Ended, Ending, ScriptError, ScriptForm, printed};
+use react_core::outside::{Event, Outside};
+use react_core::reactor::Reactor;
+use std::alloc::Global;
+
+/// A script has at most so many bytes.
+const LONGEST_SCRIPT: usize = 16_777_216;
+
+/// The reactor takes at most so many reports a wait.
+const MOST_REPORTS: usize = 64;
+
+fn is_open(ended: &Ended) -> bool
+    ensures { result ≡ is_open ended.now.ending }
+{
+    matches!(ended.ending, Ending::Open { .. })
+}
+
+fn all_open(endeds: &[Ended]) -> bool
+    ensures { result ≡ all_open endeds.now }
+{
+    endeds.iter().all(is_open)
+}
+
+/// Writes the endings and the events.
+fn report<K: Sink>(alloc: Global, sink: &mut K, endeds: &[Ended], events: &[Event]) -> u8
+    ensures status { (result ≡ 0) ⊎ (result ≡ 1) ⊎ (result ≡ 4) ⊎ (result ≡ 5) }
+    ensures all_open { result ≡ 0 →
+        (all_open endeds.now ≡ true)
+        × Appends (K.held sink.old) (K.held sink.new) (printed endeds.now events.now) }
+    ensures other { result ≡ 1 →
+        (all_open endeds.now ≡ false)
+        × Appends (K.held sink.old) (K.held sink.new) (printed endeds.now events.now) }
+    ensures failed { result ≡ 4 →
+        Rose (K.write_faults sink.old) (K.write_faults sink.new)
+        × GainsFront (K.held sink.old) (K.held sink.new) (printed endeds.now events.now) }
+    ensures nothing { result ≡ 5 → Keeps (K.held sink.old) (K.held sink.new) }
+{
+    let Ok(text) = printed(alloc, endeds, events) else {
+        return status::OUT_OF_MEMORY;
+    };
+    if write_all(sink, text.as_str().as_bytes()).is_err() {
+        return status::WRITE_FAULT;
+    }
+    if all_open(endeds) {
+        status::ALL_OPEN
+    } else {
+        status::NOT_ALL_OPEN
+    }
+}
+
+/// Opens the sessions of a script over its scene, and writes how they ended.
+fn perform<K: Sink>(alloc: Global, sink: &mut K, played: Played) -> u8
+    requires new { played.scene.told ≡ [] }
+    requires calm { HasNoPollerFault played.scene.script }
+    requires few { length played.sessions.items < 2 ^ 32 }
+    requires built { list_all is_built played.sessions.items ≡ true }
+    ensures status { (result ≡ 0) ⊎ (result ≡ 1) ⊎ (result ≡ 4) ⊎ (result ≡ 5) }
+    ensures opened { result ≡ 0 →
+        (endeds : List Ended) × (r : List Event) × Follows played.scene.script r
+        × Headline played.sessions.items endeds r × (all_open endeds ≡ true)
+        × Appends (K.held sink.old) (K.held sink.new) (printed endeds r) }
+    ensures other { result ≡ 1 →
+        (endeds : List Ended) × (r : List Event) × Follows played.scene.script r
+        × Headline played.sessions.items endeds r × (all_open endeds ≡ false)
+        × Appends (K.held sink.old) (K.held sink.new) (printed endeds r) }
+    ensures failed { result ≡ 4 →
+        (endeds : List Ended) × (r : List Event) × Follows played.scene.script r
+        × Headline played.sessions.items endeds r
+        × Rose (K.write_faults sink.old) (K.write_faults sink.new)
+        × GainsFront (K.held sink.old) (K.held sink.new) (printed endeds r) }
+    ensures nothing { result ≡ 5 → Keeps (K.held sink.old) (K.held sink.new) }
+{
+    let Played {
+        mut scene,
+        sessions,
+        rounds,
+        tick,
+        timer,
+    } = played;
+    let Ok(mut reactor) = Reactor::starting_at(alloc, MOST_REPORTS, tick, timer) else {
+        return status::OUT_OF_MEMORY;
+    };
+    faultless();
+    let opened = open_all(alloc, &mut reactor, &mut scene, sessions, rounds);
+    let events = scene.events();
+    match opened {
+        Ok(endeds) => report(alloc, sink, endeds.as_slice(), events),
+        Err(OpenError::OutOfMemory) => status::OUT_OF_MEMORY,
+        Err(OpenError::Poller) => status::POLLER,
+        Err(OpenError::Exhausted { .. }) => status::EXHAUSTED,
+    }
+}
+
+/// Runs the program on these words, and answers its status.
+///
+/// `play` reads a script from the source, opens its sessions over the scene that the script makes, and writes the endings
+/// and the record of the events into the sink. The real outside is for commands that are not built yet.
+pub fn run<S: Source, K: Sink, O: Outside>(
+    alloc: Global,
+    words: &[String],
+    source: &mut S,
+    sink: &mut K,
+    real: &mut O,
+) -> u8
+    ensures status { result ≤ 5 }
+
+    // Every session of the script is open.
+    ensures opened { result ≡ 0 →
+        (endeds : List Ended) × (r : List Event)
+        × Plays (map string_bytes words.now) (S.left source.old) (S.left source.new) endeds r
+        × (all_open endeds ≡ true) × Appends (K.held sink.old) (K.held sink.new) (printed endeds r) }
+
+    // Some session ended otherwise.
+    ensures other { result ≡ 1 →
+        (endeds : List Ended) × (r : List Event)
+        × Plays (map string_bytes words.now) (S.left source.old) (S.left source.new) endeds r
+        × (all_open endeds ≡ false) × Appends (K.held sink.old) (K.held sink.new) (printed endeds r) }
+
+    // The words or the script are refused; the line is written as far as the sink takes it.
+    ensures refused { result ≡ 2 →
+        (refused : Refused)
+        × IsRefused (map string_bytes words.now) (S.left source.old) (S.left source.new) refused
+        × GainsOrFails (K.held sink.old) (K.held sink.new) (K.write_faults sink.old) (K.write_faults sink.new) (refusal refused.line refused.reason) }
+    ensures refused_words { (reason : Reason) →
+        asked (map string_bytes words.now) ≡ Err reason → (result ≡ 2) ⊎ (result ≡ 5) }
+
+    // The source failed, and nothing was written.
+    ensures read_fault { result ≡ 3 →
+        (asked (map string_bytes words.now) ≡ Ok Play)
+        × Rose (S.read_faults source.old) (S.read_faults source.new)
+        × LosesFront (S.left source.old) (S.left source.new) × Keeps (K.held sink.old) (K.held sink.new) }
+
+    // The sink failed while the results were written, and gained a first part of them.
+    ensures write_fault { result ≡ 4 →
+        (endeds : List Ended) × (r : List Event)
+        × Plays (map string_bytes words.now) (S.left source.old) (S.left source.new) endeds r
+        × Rose (K.write_faults sink.old) (K.write_faults sink.new)
+        × GainsFront (K.held sink.old) (K.held sink.new) (printed endeds r) }
+
+    // Memory ran out, and nothing was written.
+    ensures memory { result ≡ 5 → Keeps (K.held sink.old) (K.held sink.new) }
+
+    // A run without a fault of its streams ends with the results, a refusal or want of memory.
+    ensures complete { ¬ Rose (S.read_faults source.old) (S.read_faults source.new) →
+        ¬ Rose (K.write_faults sink.old) (K.write_faults sink.new) → (result ≡ 0) ⊎ (result ≡ 1) ⊎ (result ≡ 2) ⊎ (result ≡ 5) }
+    ensures read_faults { result ≢ 3 → S.read_faults source.new ≡ S.read_faults source.old }
+
+    // No command that is built touches the real outside.
+    ensures real { real.new ≡ real.old }
+{
+    let _ = real;
+    if let Err(reason) = asked(words) {
+        return refuse(alloc, sink, 0, reason);
+    }
+    let text = match read_all(alloc, source, LONGEST_SCRIPT) {
+        Ok(text) => text,
+        Err(ReadError::Failed) => return status::READ_FAULT,
+        Err(ReadError::OutOfMemory) => return status::OUT_OF_MEMORY,
+    };
+    match Scene::from_script(alloc, text.as_slice(), ScriptForm::Play) {
+        Ok(played) => perform(alloc, sink, played),
+        Err(ScriptError::Refused { line, reason }) => refuse(alloc, sink, line, reason),
+        Err(ScriptError::OutOfMemory) => status::OUT_OF_MEMORY,
+    }
+}

@@ -1,0 +1,4 @@
+//! What no clause says: that calls succeed, the texts of whole runs, and what comes of streams that fail.
+
+mod program;
+mod streams;

@@ -1,0 +1,17 @@
+mod WordLemmas
+mod WordsFirst
+mod Joined
+mod HexLemmas
+mod FeedLen
+mod OutboxLemmas
+mod TextLemmas
+mod AskLemmas
+mod LineLemmas
+mod Feeds
+mod StandLemmas
+mod LeftLemmas
+mod Moving
+mod ClientMoves
+mod Looking
+mod Worked
+mod Starting

@@ -1,0 +1,29 @@
+//! What an opening is set up with.
+
+use crate::mechanism::AuthMechanism;
+use bus_address::Guid;
+use react_core::outside::Bytes;
+
+/// How a client opens its connection.
+#[derive(Debug, Drop)]
+pub struct ClientConfig {
+    /// The mechanism; without one a TCP wire takes ANONYMOUS and any other EXTERNAL.
+    pub mechanism: Option<AuthMechanism>,
+    /// The user number that EXTERNAL names.
+    pub user: u32,
+    /// What is sent behind `BEGIN`, in one piece with it.
+    pub hello: Option<Bytes>,
+    /// Whether `BEGIN` waits for the answer to `NEGOTIATE_UNIX_FD`, as a flatpak portal's proxy wants it.
+    pub flatpak: bool,
+}
+
+/// How a server takes a connection.
+#[derive(Clone, Copy, Debug)]
+pub struct ServerConfig {
+    /// The server's own GUID.
+    pub guid: Guid,
+    /// The one mechanism that it accepts.
+    pub mechanism: AuthMechanism,
+    /// The user whom EXTERNAL permits; without one nobody.
+    pub permitted: Option<u32>,
+}

@@ -1,0 +1,145 @@
+-- What is known of a script that is read.
+use Rattle.std.proofs.Common.{◌≡◌, ℕ, ◌+◌, ◌<◌, ◌≤◌, ◌^◌, Bool, true, false, not, ◌&&◌, List, [], ◌∷◌, ◌++◌, length, map, Option, Some, None, Result, Ok, Err, refl, sym, ap, ◌∙◌, subst, if◌then◌else◌, arith, inl, inr, nat_lt}
+use Rattle.std.specs.Prelude.{is_ok, is_none, is_some, fold, ◌==◌}
+use Rattle.std.specs.List.{list_all}
+use Rattle.std.specs.Result.{result_unwrap_or}
+use Rattle.std.proofs.lemmas.List.Folds.{list_all-append}
+use Rattle.std.proofs.lemmas.Bool.{true≢false}
+use Rattle.std.proofs.lemmas.Grind.{common_steps}
+use Rattle.std.proofs.lemmas.List.Splits.{length-slice_split}
+use Rattle.std.proofs.lemmas.List.Sums.{count_by-le-length}
+use Rattle.bus_address.specs.Plain.{plain_path}
+use Rattle.bus_opening.specs.declared.mechanism.AuthMechanism.{AuthMechanism}
+use Rattle.bus_opening.specs.declared.mechanism.AuthMechanism.TheVariants.{External, Anonymous}
+use Rattle.bus_script.specs.Forms.{is_external as names_external, is_built as is_built_line, is_built_client, line_of}
+use Rattle.bus_script.specs.Script.{Script, script, lines_in, built}
+use Rattle.bus_script.specs.Words.{◌>>=◌, words_of}
+use Rattle.bus_script.specs.declared.line.Reason.{Reason}
+use Rattle.bus_script.specs.declared.line.Reason.TheVariants.{NotBuilt}
+use Rattle.bus_script.specs.Shape.{Say, lines_of, rounds_lines, start_lines}
+use Rattle.bus_script.specs.declared.line.Line.{Line}
+use Rattle.bus_script.specs.declared.line.Line.TheVariants as line
+use Rattle.bus_script.specs.declared.line.Answer.{Answer}
+use Rattle.bus_script.specs.declared.line.Answer.TheVariants as answer
+use Rattle.bus_script.specs.declared.line.SessionLine.{SessionLine}
+use Rattle.bus_script.specs.declared.line.SessionLine.TheVariants as session_line
+use Rattle.bus_peers.specs.Queues.{Queues, enqueue, empty_queues, queues}
+use Rattle.bus_peers.specs.Plays.{HasNoPollerFault}
+use Rattle.bus_peers.specs.Sessions.{goes_by_external, is_built}
+use Rattle.bus_peers.specs.Reading.{session_of}
+use Rattle.bus_peers.proofs.FaultlessLemmas.{both-left, both-right}
+
+-- the lines of a text are no fewer than what they say
+pub said_few : (texts : List (List ℕ)) (said : List Line) → Say texts said → length said ≤ length texts
+said_few [] said nothing = omega (arith, ap length nothing)
+said_few (text ∷ texts) said (inl skipped) = omega (arith, said_few texts said skipped.1)
+said_few (text ∷ texts) said (inr read) = omega (arith, ap length read.1.2, said_few texts read.1.1 read.1.4)
+
+pub if_built : (b : Bool) (x l : Line) → (if b then Ok x else Err NotBuilt) ≡ Ok l → (b ≡ true) × (x ≡ l)
+if_built true x l is = (refl, ap (λ r. result_unwrap_or r x) is)
+if_built false x l is = let wrong : false ≡ true = ap is_ok is in absurd (true≢false (sym wrong))
+
+pub built_so : (r : Result Line Reason) (l : Line) → (r >>= built) ≡ Ok l → is_built_line l ≡ true
+built_so (Err e) l is = let wrong : false ≡ true = ap is_ok is in absurd (true≢false (sym wrong))
+built_so (Ok x) l is = let so = if_built (is_built_line x) x l is in subst (λ m. is_built_line m ≡ true) so.1 so.0
+
+-- each line that is said is built
+pub said_built : (texts : List (List ℕ)) (said : List Line) → Say texts said → list_all is_built_line said ≡ true
+said_built [] said nothing = rw nothing refl
+said_built (text ∷ texts) said (inl skipped) = said_built texts said skipped.1
+said_built (text ∷ texts) said (inr read) =
+    let first : is_built_line read.1.0 ≡ true = built_so (line_of (words_of text)) read.1.0 read.1.3 in
+    let more : list_all is_built_line read.1.1 ≡ true = said_built texts read.1.1 read.1.4 in
+    rw read.1.2 (λ i. first i && more i)
+
+pub all_of_map : {X Y : Type 0} (p : Y → Bool) (f : X → Y) (xs : List X) → list_all p (map f xs) ≡ list_all (λ x. p (f x)) xs
+all_of_map p f [] = refl
+all_of_map p f (x ∷ xs) = ap (λ b. p (f x) && b) (all_of_map p f xs)
+
+-- the sessions and the answers of a script are
+pub parts_built : (s : Script) → list_all is_built_line (lines_of s) ≡ true →
+    (list_all (λ l. is_built_line (line.Session l)) s.sessions ≡ true) × (list_all (λ a. is_built_line (line.Answer a)) s.answers ≡ true)
+parts_built s h =
+    let front = (rounds_lines s.rounds ++ start_lines s.start) ++ map line.Session s.sessions in
+    let whole : (list_all is_built_line front && list_all is_built_line (map line.Answer s.answers)) ≡ true =
+    sym (list_all-append is_built_line front (map line.Answer s.answers)) ∙ h in
+    let fronts : (list_all is_built_line (rounds_lines s.rounds ++ start_lines s.start) && list_all is_built_line (map line.Session s.sessions)) ≡ true =
+    sym (list_all-append is_built_line (rounds_lines s.rounds ++ start_lines s.start) (map line.Session s.sessions))
+    ∙ both-left (list_all is_built_line front) (list_all is_built_line (map line.Answer s.answers)) whole in (
+      sym (all_of_map is_built_line line.Session s.sessions)
+          ∙ both-right (list_all is_built_line (rounds_lines s.rounds ++ start_lines s.start)) (list_all is_built_line (map line.Session s.sessions)) fronts,
+      sym (all_of_map is_built_line line.Answer s.answers)
+          ∙ both-right (list_all is_built_line front) (list_all is_built_line (map line.Answer s.answers)) whole,
+    )
+
+pub lines_few : (text : List ℕ) → length (lines_in text) ≤ length text + 1
+lines_few text = omega (arith, length-slice_split (λ b. b == 10) text, count_by-le-length (λ b. b == 10) text)
+
+-- a script has at most 16777216 bytes
+pub bytes_few : (text : List ℕ) (s : Script) → script text ≡ Ok s → length text ≤ 16777216
+unfolding script
+bytes_few text s is =
+    elim (nat_lt 16777216 (length text)) as (λ b. nat_lt 16777216 (length text) ≡ b → length text ≤ 16777216) [
+      | true ↦ λ long. let wrong : is_ok (script text) ≡ false = rw long refl in absurd (true≢false (sym (ap is_ok is) ∙ wrong))
+      | false ↦ λ short. grind (arith, short)
+    ] refl
+
+pub sessions_few : (text : List ℕ) (s : Script) → script text ≡ Ok s → Say (lines_in text) (lines_of s) → length s.sessions < 2 ^ 32
+sessions_few text s is say =
+    let sessions : length s.sessions ≤ length (lines_of s) = grind (arith, common_steps) in
+    omega (arith, sessions, said_few (lines_in text) (lines_of s) say, lines_few text, bytes_few text s is)
+
+pub same_external : (m : Option AuthMechanism) → names_external m ≡ goes_by_external m
+same_external None = refl
+same_external (Some External) = refl
+same_external (Some Anonymous) = refl
+
+pub regrouped : (a b c d e : Bool) → ((((a && b) && c) && d) && e) ≡ true → (d && ((a && (b && c)) && e)) ≡ true
+regrouped true true true true true h = refl
+regrouped true true true true false h = h
+regrouped true true true false e h = h
+regrouped true true false d e h = absurd (true≢false (sym h))
+regrouped true false c d e h = absurd (true≢false (sym h))
+regrouped false b c d e h = absurd (true≢false (sym h))
+
+-- a session of a built line is built
+pub session_built : (l : SessionLine) → is_built_line (line.Session l) ≡ true → is_built (session_of l) ≡ true
+unfolding is_built_line is_built_client
+session_built (session_line.Client address config deadline) h =
+    regrouped (goes_by_external config.mechanism) (is_none config.hello) (not config.flatpak) (is_none deadline) (is_some (plain_path address))
+    (ap (λ x. (((x && is_none config.hello) && not config.flatpak) && is_none deadline) && is_some (plain_path address)) (sym (same_external config.mechanism)) ∙ h)
+session_built (session_line.Server config deadline) h = absurd (true≢false (sym h))
+
+pub sessions_built : (ls : List SessionLine) → list_all (λ l. is_built_line (line.Session l)) ls ≡ true → list_all is_built (map session_of ls) ≡ true
+sessions_built [] h = refl
+sessions_built (l ∷ ls) h =
+    let first : is_built (session_of l) ≡ true = session_built l (both-left (is_built_line (line.Session l)) (list_all (λ l. is_built_line (line.Session l)) ls) h) in
+    let more : list_all is_built (map session_of ls) ≡ true = sessions_built ls (both-right (is_built_line (line.Session l)) (list_all (λ l. is_built_line (line.Session l)) ls) h) in
+    λ i. first i && more i
+
+pub all_built : (text : List ℕ) (s : Script) → Say (lines_in text) (lines_of s) → list_all is_built (map session_of s.sessions) ≡ true
+all_built text s say = sessions_built s.sessions (parts_built s (said_built (lines_in text) (lines_of s) say)).0
+
+-- answers to dialling and reads leave the poller's queues alone, and no other is built
+pub enqueued_faultless : (q : Queues) (a : Answer) → HasNoPollerFault q → is_built_line (line.Answer a) ≡ true → HasNoPollerFault (enqueue q a)
+unfolding is_built_line
+enqueued_faultless q (answer.Dial session a) h built = record { adds = h.adds; modifies = h.modifies; deletes = h.deletes; notifies = h.notifies; waits = h.waits }
+enqueued_faultless q (answer.Recv session a) h built = record { adds = h.adds; modifies = h.modifies; deletes = h.deletes; notifies = h.notifies; waits = h.waits }
+enqueued_faultless q (answer.Send session a) h built = absurd (true≢false (sym built))
+enqueued_faultless q (answer.Now t) h built = absurd (true≢false (sym built))
+enqueued_faultless q (answer.Add ok) h built = absurd (true≢false (sym built))
+enqueued_faultless q (answer.Modify ok) h built = absurd (true≢false (sym built))
+enqueued_faultless q (answer.Delete ok) h built = absurd (true≢false (sym built))
+enqueued_faultless q (answer.Notify ok) h built = absurd (true≢false (sym built))
+enqueued_faultless q (answer.Wait a) h built = absurd (true≢false (sym built))
+
+pub queued_faultless : (q : Queues) (xs : List Answer) → HasNoPollerFault q → list_all (λ a. is_built_line (line.Answer a)) xs ≡ true → HasNoPollerFault (fold enqueue q xs)
+queued_faultless q [] h built = h
+queued_faultless q (a ∷ xs) h built =
+    queued_faultless (enqueue q a) xs (enqueued_faultless q a h (both-left (is_built_line (line.Answer a)) (list_all (λ a. is_built_line (line.Answer a)) xs) built))
+    (both-right (is_built_line (line.Answer a)) (list_all (λ a. is_built_line (line.Answer a)) xs) built)
+
+pub script_faultless : (text : List ℕ) (s : Script) → Say (lines_in text) (lines_of s) → HasNoPollerFault (queues (length s.sessions) s.answers)
+script_faultless text s say =
+    queued_faultless (empty_queues (length s.sessions)) s.answers (record { adds = refl; modifies = refl; deletes = refl; notifies = refl; waits = refl })
+    (parts_built s (said_built (lines_in text) (lines_of s) say)).1

@@ -1,0 +1,12 @@
+pub mod Sessions
+pub mod Queues
+pub mod Plays
+pub mod Cursors
+pub mod Reading
+pub mod Parts
+pub mod Dialled
+pub mod Alone
+pub mod Settled
+pub mod Headline
+pub mod Conversed
+pub mod Visited

@@ -1,0 +1,18 @@
+//! Many sessions opened at once over one reactor.
+#![tactic(auto)]
+
+mod from_script;
+mod open;
+mod queues;
+mod scene;
+mod session;
+
+pub use bus_script::{Ended, Ending};
+pub use from_script::Played;
+pub use open::{OpenError, open_all};
+pub use queues::QueuedAnswers;
+pub use scene::{Scene, faultless};
+pub use session::{Party, Session};
+
+#[cfg(test)]
+mod tests;

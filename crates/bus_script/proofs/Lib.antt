@@ -1,0 +1,7 @@
+pub mod Numbers
+pub mod Ends
+pub mod Loops
+pub mod Lines
+pub mod Shape
+pub mod Laws
+pub mod Texts

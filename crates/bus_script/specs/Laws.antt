@@ -1,0 +1,26 @@
+-- What holds of each script that is read.
+use Rattle.std.specs.Prelude.{ℕ, ◌≤◌, List, [], ◌∷◌, length, Option, Some, None}
+use Rattle.std.specs.List.{AllPass}
+use Rattle.bus_script.specs.Forms.{is_built}
+use Rattle.bus_script.specs.Script.{Script, names_sessions}
+use Rattle.bus_script.specs.declared.line.Answer.{Answer}
+use Rattle.bus_script.specs.declared.line.Answer.TheVariants as answers
+use Rattle.bus_script.specs.declared.line.Line.TheVariants as lines
+
+-- each session has a form that is built
+abbrev pub HasBuiltSessions : Script → Type 0
+HasBuiltSessions s = AllPass (λ l. is_built (lines.Session l)) s.sessions
+
+-- each answer has a form that is built
+abbrev pub HasBuiltAnswers : Script → Type 0
+HasBuiltAnswers s = AllPass (λ a. is_built (lines.Answer a)) s.answers
+
+-- the sessions that the answers name are there
+abbrev pub NamesItsSessions : Script → Type 0
+NamesItsSessions s = AllPass (λ a. names_sessions (length s.sessions) a) s.answers
+
+-- from this reading on, no reading of the clock is below the one before
+abbrev pub IsForward : ℕ → List Answer → Type 0
+IsForward t [] = Unit {0}
+IsForward t (answers.Now u ∷ more) = (t ≤ u) × IsForward u more
+IsForward t (_ ∷ more) = IsForward t more

@@ -1,0 +1,13 @@
+pub mod TextLemmas
+pub mod Named
+pub mod Cases
+pub mod Fronts
+pub mod Unique
+pub mod Steps
+pub mod ReadLengths
+pub mod Depths
+pub mod Strips
+pub mod Grows
+pub mod Equal
+pub mod Ordered
+pub mod KindOrder

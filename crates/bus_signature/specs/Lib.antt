@@ -1,0 +1,9 @@
+pub mod formers
+pub mod Errors
+pub mod Texts
+pub mod Grammar
+pub mod Taking
+pub mod Appending
+pub mod Measures
+pub mod Comparing
+pub mod Order

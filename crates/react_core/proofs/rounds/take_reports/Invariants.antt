@@ -1,0 +1,23 @@
+use Rattle.std.proofs.Common.{◌≡◌, ◌+◌, ◌≤◌, ◌++◌, drop, vec_len, vec_capacity}
+use Rattle.slab.specs.Slab.{entries}
+use Rattle.react_core.specs.Causes.{ReactCounted}
+use Rattle.react_core.specs.Reports.{after_reports, taken_by_all, armings_by_all}
+use Rattle.react_core.proofs.Taking.{waiting}
+use Rattle.react_core.proofs.Tries.{TriedSoFar}
+use Rattle.react_core.proofs.rounds.take_reports.Given as goal
+
+-- what is done so far and what is left give the whole, and there is room for each task that waits
+abbrev pub invariant-loop-report : goal.invariant-loop-report
+invariant-loop-report g l = record {
+  sources : after_reports l.ticker (entries l.sources) (drop l.report-index l.reports) ≡ after_reports l.ticker (entries l.fn.sources) l.reports;
+  hands : l.hands.items ++ taken_by_all l.ticker (entries l.sources) (drop l.report-index l.reports) ≡ l.fn.hands.items ++ taken_by_all l.ticker (entries l.fn.sources) l.reports;
+  room : vec_len l.hands + waiting (entries l.sources) ≤ vec_capacity l.hands;
+  capacity : vec_capacity l.hands ≡ vec_capacity l.fn.hands;
+  armed : TriedSoFar (armings_by_all l.ticker (entries l.fn.sources) l.reports) (armings_by_all l.ticker (entries l.sources) (drop l.report-index l.reports)) l.answer (g.R.Tells.events l.fn.registrar) (g.R.Tells.events l.registrar);
+  cause : ReactCounted l.answer (g.R.Tells.poller_faults l.fn.registrar) (g.R.Tells.poller_faults l.registrar);
+  origin : g.R.Tells.origin l.registrar ≡ g.R.Tells.origin l.fn.registrar;
+  moment : g.R.Tells.moment l.registrar ≡ g.R.Tells.moment l.fn.registrar;
+  wires : g.R.Tells.wire_faults l.registrar ≡ g.R.Tells.wire_faults l.fn.registrar;
+  dials : g.R.Tells.dial_faults l.registrar ≡ g.R.Tells.dial_faults l.fn.registrar;
+  doors : g.R.Tells.doors l.registrar ≡ g.R.Tells.doors l.fn.registrar;
+}

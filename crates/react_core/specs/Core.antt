@@ -1,0 +1,43 @@
+-- The reactor's core as plain data.
+use Rattle.std.specs.Prelude.{◌≡◌, ℕ, List, [], Option, None, IsSome}
+use Rattle.react_core.specs.declared.source.Source.{Source}
+use Rattle.react_core.specs.Sources.{source_of, with_new, without, new_source}
+
+pub record Core : Type 0 where
+  -- the last round that was begun
+  pub ticker : ℕ
+  -- the last timer that was made
+  pub made : ℕ
+  -- how many polled interests were begun, first or anew
+  pub begun : ℕ
+  -- by rising key
+  pub sources : List (ℕ × Source)
+  -- the tasks that the open round has taken, where one is open
+  pub hands : Option (List ℕ)
+
+-- what contracts see of a reactor: its core, and how many reports one of its waits can take
+pub record ReactorState : Type 0 where
+  pub core : Core
+  pub events : ℕ
+
+-- an idle core with these counters
+abbrev pub new_core : ℕ → ℕ → Core
+new_core tick timer = record { ticker = tick; made = timer; begun = 0; sources = []; hands = None }
+
+abbrev pub HasSource : Core → ℕ → Type 0
+HasSource core key = IsSome (source_of core.sources key)
+
+-- no round is open, and there is no source
+abbrev pub IsIdle : Core → Type 0
+IsIdle core = (core.hands ≡ None) × (core.sources ≡ [])
+
+abbrev pub IsRoundOpen : Core → Type 0
+IsRoundOpen core = IsSome core.hands
+
+-- a new source of this wire stands under the key
+abbrev pub inserted : Core → ℕ → ℕ → Core
+inserted core key wire = record core { sources = with_new core.sources key (new_source wire) }
+
+-- the source under the key is gone
+abbrev pub removed : Core → ℕ → Core
+removed core key = record core { sources = without core.sources key }

@@ -1,0 +1,9 @@
+pub mod Doors
+pub mod Told
+pub mod Sources
+pub mod Core
+pub mod Causes
+pub mod Readiness
+pub mod Reports
+pub mod Step
+pub mod Round

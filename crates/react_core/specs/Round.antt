@@ -1,0 +1,218 @@
+-- A whole round: what the outside answered in it, what was told, and what is left.
+use Rattle.std.specs.Prelude.{◌≡◌, ◌≢◌, ◌+◌, ◌^◌, ◌-◌, ◌≤◌, ℕ, Bool, true, false, nat_lt, is_some, List, [], ◌∷◌, ◌++◌, map, Option, Some, None, Result, Ok, Err}
+use Rattle.react_core.specs.declared.outside.Event.{Event}
+use Rattle.react_core.specs.declared.outside.Event.TheVariants as event
+use Rattle.react_core.specs.declared.outside.Report.{Report}
+use Rattle.react_core.specs.declared.outside.WaitAnswer.{WaitAnswer}
+use Rattle.react_core.specs.declared.outside.WaitAnswer.TheVariants as wait_answer
+use Rattle.react_core.specs.declared.reactor.Counter.TheVariants as counter
+use Rattle.react_core.specs.declared.reactor.ReactError.{ReactError}
+use Rattle.react_core.specs.declared.reactor.ReactError.TheVariants.{Poller, OutOfMemory, Exhausted}
+use Rattle.react_core.specs.declared.source.Source.{Source}
+use Rattle.react_core.specs.Core.{Core}
+use Rattle.react_core.specs.Reports.{after_reports, taken_by_all, armings_by_all, armed_told, Try, tries_told, worst}
+use Rattle.react_core.specs.Step.{WokeAll}
+use Rattle.react_core.specs.Told.{Rose, told}
+
+abbrev pub reports_of : WaitAnswer → List Report
+reports_of (wait_answer.Reported reports) = reports
+reports_of wait_answer.Interrupted = []
+reports_of wait_answer.Failed = []
+
+-- a wait that doesn't end at once
+abbrev pub not_zero : Option ℕ → Bool
+not_zero None = true
+not_zero (Some d) = nat_lt 0 d
+
+-- the timeout has passed, and nothing was reported
+abbrev pub is_quiet : Option ℕ → WaitAnswer → Bool
+is_quiet timeout (wait_answer.Reported []) = not_zero timeout
+is_quiet timeout (wait_answer.Reported (r ∷ reports)) = false
+is_quiet timeout wait_answer.Interrupted = false
+is_quiet timeout wait_answer.Failed = false
+
+-- ---- a round that went well
+
+pub record Round : Type 0 where
+  pub first : ℕ
+  pub answer : WaitAnswer
+  pub second : Option ℕ
+
+abbrev pub reading_told : Option ℕ → List Event
+reading_told None = []
+reading_told (Some moment) = event.Now moment ∷ []
+
+abbrev pub round_told : Option ℕ → Round → List Event
+round_told timeout r = event.Now r.first ∷ event.Wait timeout r.answer ∷ reading_told r.second
+
+-- a second reading is made exactly where the timeout has passed and nothing was reported; no wait has failed
+abbrev pub IsRound : Option ℕ → Round → Type 0
+IsRound timeout r = (is_some r.second ≡ is_quiet timeout r.answer) × (r.answer ≢ wait_answer.Failed)
+
+-- a whole round: what is told, what is left, what is woken
+pub record Rounds {W : Type 0} (woke : W → ℕ → W → Type 0) (timeout : Option ℕ) (before after : Option (List Event)) (old new : Core) (wakes wakes' : W) (r : Round) : Type 0 where
+  pub form : IsRound timeout r
+  pub gained : after ≡ told before (round_told timeout r ++ map armed_told (armings_by_all (old.ticker + 1) old.sources (reports_of r.answer)))
+  pub core : new ≡ record old { ticker = old.ticker + 1; sources = after_reports (old.ticker + 1) old.sources (reports_of r.answer); hands = None }
+  pub woken : WokeAll woke wakes (taken_by_all (old.ticker + 1) old.sources (reports_of r.answer)) wakes'
+
+-- ---- a round that may be refused
+
+-- the reading after the wait
+pub data Second : Type 0 where
+  NotRead : Second
+  ReadAt : ℕ → Second
+  -- it found no memory
+  Unreadable : Second
+
+-- the wait and the reading after it
+pub data Pause : Type 0 where
+  -- the wait found no memory
+  Unwaited : Pause
+  Waited : WaitAnswer → Second → Pause
+
+-- the outside's answers in a round, up to its reports
+pub data Course : Type 0 where
+  -- the first reading found no memory
+  Unread : Course
+  -- the first reading, and what came then
+  Read : ℕ → Pause → Course
+
+abbrev pub was_tried : Second → Bool
+was_tried NotRead = false
+was_tried (ReadAt moment) = true
+was_tried Unreadable = true
+
+-- the clock is read again exactly where the timeout has passed and nothing was reported
+abbrev pub IsPause : Option ℕ → Pause → Type 0
+IsPause timeout Unwaited = Unit {0}
+IsPause timeout (Waited answer second) = was_tried second ≡ is_quiet timeout answer
+
+abbrev pub IsCourse : Option ℕ → Course → Type 0
+IsCourse timeout Unread = Unit {0}
+IsCourse timeout (Read first pause) = IsPause timeout pause
+
+abbrev pub second_told : Second → List Event
+second_told NotRead = []
+second_told (ReadAt moment) = event.Now moment ∷ []
+second_told Unreadable = []
+
+abbrev pub pause_told : Option ℕ → Pause → List Event
+pause_told timeout Unwaited = []
+pause_told timeout (Waited answer second) = event.Wait timeout answer ∷ second_told second
+
+abbrev pub course_told : Option ℕ → Course → List Event
+course_told timeout Unread = []
+course_told timeout (Read first pause) = event.Now first ∷ pause_told timeout pause
+
+abbrev pub pause_reports : Pause → List Report
+pause_reports Unwaited = []
+pause_reports (Waited answer second) = reports_of answer
+
+abbrev pub course_reports : Course → List Report
+course_reports Unread = []
+course_reports (Read first pause) = pause_reports pause
+
+abbrev pub wait_refusal : WaitAnswer → Result (Unit {0}) ReactError
+wait_refusal (wait_answer.Reported reports) = Ok tt
+wait_refusal wait_answer.Interrupted = Ok tt
+wait_refusal wait_answer.Failed = Err Poller
+
+abbrev pub pause_answer : Pause → Result (Unit {0}) ReactError
+pause_answer Unwaited = Err OutOfMemory
+pause_answer (Waited answer NotRead) = wait_refusal answer
+pause_answer (Waited answer (ReadAt moment)) = wait_refusal answer
+pause_answer (Waited answer Unreadable) = Err OutOfMemory
+
+abbrev pub course_answer : Course → Result (Unit {0}) ReactError
+course_answer Unread = Err OutOfMemory
+course_answer (Read first pause) = pause_answer pause
+
+-- the clock's last reading after the round
+abbrev pub SecondClock : ℕ → Second → ℕ → Type 0
+SecondClock first NotRead now = now ≡ first
+SecondClock first (ReadAt moment) now = (first ≤ moment) × (now ≡ moment)
+SecondClock first Unreadable now = now ≡ first
+
+abbrev pub PauseClock : ℕ → Pause → ℕ → Type 0
+PauseClock first Unwaited now = now ≡ first
+PauseClock first (Waited answer second) now = SecondClock first second now
+
+abbrev pub CourseClock : ℕ → Course → ℕ → Type 0
+CourseClock before Unread now = now ≡ before
+CourseClock before (Read first pause) now = (before ≤ first) × PauseClock first pause now
+
+-- the core after the round: as it was where the clock could not be read, else begun and finished with the reports
+abbrev pub after_course : Core → Course → Core
+after_course core Unread = core
+after_course core (Read first pause) =
+    record core { ticker = core.ticker + 1; sources = after_reports (core.ticker + 1) core.sources (pause_reports pause); hands = None }
+
+-- the first refusal of two answers
+abbrev pub then_answer : Result (Unit {0}) ReactError → Result (Unit {0}) ReactError → Result (Unit {0}) ReactError
+then_answer (Ok u) second = second
+then_answer (Err e) second = Err e
+
+-- a round of this course, in which the armings after its reports were tried so: a wait that was refused or failed is
+-- finished with no reports
+pub record Ran {W : Type 0} (woke : W → ℕ → W → Type 0) (timeout : Option ℕ) (before after : Option (List Event)) (moment now : ℕ) (old new : Core) (wakes wakes' : W) (answer : Result (Unit {0}) ReactError) (course : Course) (tries : List Try) : Type 0 where
+  pub form : IsCourse timeout course
+  pub each : map (λ t. t.0) tries ≡ armings_by_all (old.ticker + 1) old.sources (course_reports course)
+  pub answers : answer ≡ then_answer (course_answer course) (worst tries)
+  pub gained : after ≡ told before (course_told timeout course ++ tries_told tries)
+  pub clock : CourseClock moment course now
+  pub core : new ≡ after_course old course
+  pub woken : WokeAll woke wakes (taken_by_all (old.ticker + 1) old.sources (course_reports course)) wakes'
+
+-- ---- the number of the next round
+
+-- Exhausted exactly where the next round's number was needed and the last one stood at its type's end
+abbrev pub NumberedBy : {T : Type 0} → Result T ReactError → ℕ → Type 0
+NumberedBy (Ok v) ticker = ticker ≢ 2 ^ 64 - 1
+NumberedBy (Err Poller) ticker = ticker ≢ 2 ^ 64 - 1
+NumberedBy (Err OutOfMemory) ticker = ticker ≢ 2 ^ 64 - 1
+NumberedBy (Err (Exhausted c value)) ticker = (c ≡ counter.Round) × (value ≡ 2 ^ 64 - 1) × (ticker ≡ 2 ^ 64 - 1)
+
+-- what holds where a number was exhausted
+abbrev pub OnExhausted : {T : Type 0} → Result T ReactError → Type 0 → Type 0
+OnExhausted (Ok v) P = Unit {0}
+OnExhausted (Err Poller) P = Unit {0}
+OnExhausted (Err OutOfMemory) P = Unit {0}
+OnExhausted (Err (Exhausted c value)) P = P
+
+-- what holds where none was
+abbrev pub UnlessExhausted : {T : Type 0} → Result T ReactError → Type 0 → Type 0
+UnlessExhausted (Ok v) P = P
+UnlessExhausted (Err Poller) P = P
+UnlessExhausted (Err OutOfMemory) P = P
+UnlessExhausted (Err (Exhausted c value)) P = Unit {0}
+
+-- the answer is Poller exactly where this count rose
+abbrev pub RoundCounted : {T : Type 0} → Result T ReactError → ℕ → ℕ → Type 0
+RoundCounted (Ok v) before now = now ≡ before
+RoundCounted (Err Poller) before now = Rose before now
+RoundCounted (Err OutOfMemory) before now = now ≡ before
+RoundCounted (Err (Exhausted c value)) before now = now ≡ before
+
+-- a begun round with this number, up to its end
+pub record Passed {W : Type 0} (woke : W → ℕ → W → Type 0) (timeout : Option ℕ) (before after : Option (List Event)) (first now ticker : ℕ) (old new : List (ℕ × Source)) (wakes wakes' : W) (answer : Result (Unit {0}) ReactError) (p : Pause) (tries : List Try) : Type 0 where
+  pub form : IsPause timeout p
+  pub each : map (λ t. t.0) tries ≡ armings_by_all ticker old (pause_reports p)
+  pub answers : answer ≡ then_answer (pause_answer p) (worst tries)
+  pub gained : after ≡ told before (pause_told timeout p ++ tries_told tries)
+  pub clock : PauseClock first p now
+  pub sources : new ≡ after_reports ticker old (pause_reports p)
+  pub woken : WokeAll woke wakes (taken_by_all ticker old (pause_reports p)) wakes'
+
+-- the answer alone, without its value
+abbrev pub answer_of : {T : Type 0} → Result T ReactError → Result (Unit {0}) ReactError
+answer_of (Ok v) = Ok tt
+answer_of (Err e) = Err e
+
+-- a pause of this form, after the clock's first reading
+pub record Paused {T : Type 0} (timeout : Option ℕ) (before after : Option (List Event)) (first now : ℕ) (reports : List Report) (answer : Result T ReactError) (p : Pause) : Type 0 where
+  pub form : IsPause timeout p
+  pub gained : after ≡ told before (pause_told timeout p)
+  pub clock : PauseClock first p now
+  pub reported : reports ≡ pause_reports p
+  pub answers : answer_of answer ≡ pause_answer p

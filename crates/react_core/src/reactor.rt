@@ -1,0 +1,485 @@
+//! The reactor: sources under keys, rounds and readiness.
+ghost use Rattle.std.specs.Prelude.{◌≡◌, ◌≤◌, ◌↔◌, ◌==◌, ℕ, if◌then◌else◌, None, Some, [], IsTrue, is_some, IfOk, OnOk, OnErr};
+ghost use Rattle.react_core.specs.Causes.{ReactCounted, InsertTold, RemoveTold};
+ghost use Rattle.react_core.specs.Core.{Core, inserted, removed};
+ghost use Rattle.react_core.specs.Sources.{source_of, new_source, RisesFrom};
+ghost use Rattle.react_core.specs.Told.{told};
+
+use crate::outside::{Clock, Fault, OutOfMemory, Poller, Registrar, Report, Wakes};
+use crate::rounds::{run_round, take_reports, wake_all};
+use crate::source::{Source, Waiting, find, make_room, put, put_in, take_out};
+use futures::task::Poll;
+use slab::Slab;
+use std::alloc::Global;
+use std::fmt;
+use std::marker::Model;
+use thiserror::Error;
+
+/// A direction in which a source can be ready.
+#[derive(Clone, Copy, Debug, PartialEq, Eq)]
+pub enum Dir {
+    Read,
+    Write,
+}
+
+/// A counter of the reactor that can come to its end.
+#[derive(Clone, Copy, Debug, PartialEq, Eq)]
+pub enum Counter {
+    Round,
+}
+
+impl fmt::Display for Counter {
+    fn fmt<W: fmt::Write>(&self, f: &mut fmt::Formatter<W>) -> fmt::Result {
+        match self {
+            Counter::Round => write!(f, "round"),
+        }
+    }
+}
+
+/// Why a call of the reactor was refused.
+#[derive(Clone, Copy, Debug, Error, PartialEq, Eq)]
+pub enum ReactError {
+    /// The poller failed, and counted it.
+    #[error("the poller failed")]
+    Poller,
+    /// The call needed this counter's next number, and the counter stood at this value, its type's end.
+    #[error("the {counter} counter stands at its end, {value}")]
+    Exhausted { counter: Counter, value: u64 },
+    #[error("out of memory")]
+    OutOfMemory,
+}
+
+impl From<OutOfMemory> for ReactError {
+    ghost use Rattle.react_core.specs.declared.reactor.ReactError.TheVariants.{OutOfMemory};
+
+    ghost from_gives = { λ _ e. e ≡ OutOfMemory };
+
+    fn from(_: OutOfMemory) -> Self {
+        ReactError::OutOfMemory
+    }
+}
+
+impl From<Fault> for ReactError {
+    ghost use Rattle.react_core.specs.Causes.{react_error};
+
+    ghost from_gives = { λ f e. e ≡ react_error f };
+
+    fn from(fault: Fault) -> Self {
+        match fault {
+            Fault::Failed => ReactError::Poller,
+            Fault::OutOfMemory => ReactError::OutOfMemory,
+        }
+    }
+}
+
+/// What the begin of a round gives: its number, and for how long the round may wait, in nanoseconds. Where there is no
+/// timeout, it may wait for ever.
+#[derive(Clone, Copy, Debug, PartialEq, Eq)]
+pub struct Begun {
+    pub round: u64,
+    pub timeout: Option<u64>,
+}
+
+const NO_REPORT: Report = Report {
+    key: 0,
+    read: false,
+    write: false,
+};
+
+/// Sources with the tasks that wait for them, and rounds that wake these tasks.
+#[derive(Drop)]
+pub struct Reactor {
+    ticker: u64,
+    made: u64,
+    begun: u64,
+    sources: Slab<Source>,
+    hands: Vec<u64>,
+    in_round: bool,
+    reports: Vec<Report>,
+}
+
+impl Model for Reactor {
+    ghost use Rattle.std.specs.Prelude.{if◌then◌else◌, Some, None, ◌+◌, ◌*◌, ◌≤◌, vec_len, vec_capacity, length};
+    ghost use Rattle.slab.specs.Slab.{entries};
+    ghost use Rattle.react_core.specs.Core.{Core, ReactorState};
+
+    ghost Value = { ReactorState };
+
+    ghost view = { λ r. record {
+      core = record {
+        ticker = r.ticker;
+        made = r.made;
+        begun = r.begun;
+        sources = entries r.sources;
+        hands = if r.in_round then Some r.hands.items else None;
+      };
+      events = length r.reports.items;
+    } };
+
+    // There is room for the two tasks that each source can hold.
+    ghost invariant = { λ r. vec_len r.hands + 2 * length (entries r.sources) ≤ vec_capacity r.hands };
+}
+
+impl Reactor {
+    ghost use Rattle.react_core.specs.Core.{new_core, IsIdle, HasSource};
+
+    /// An idle reactor whose waits take at most `events` reports. Both counters are 0.
+    pub fn new(alloc: Global, events: usize) -> Result<Reactor, OutOfMemory>
+        requires { 1 ≤ events }
+        ensures { IfOk result (λ r. r ≡ record { core = new_core 0 0; events = events }) }
+    {
+        Reactor::starting_at(alloc, events, 0, 0)
+    }
+
+    /// An idle reactor as `new` makes it, but for its counters: the numbers of the last round and of the last timer.
+    pub fn starting_at(
+        alloc: Global,
+        events: usize,
+        tick: u64,
+        timer: u64,
+    ) -> Result<Reactor, OutOfMemory>
+        requires { 1 ≤ events }
+        ensures { IfOk result (λ r. r ≡ record { core = new_core tick timer; events = events }) }
+    {
+        let mut reports = Vec::new(alloc);
+        reports.resize(events, NO_REPORT)?;
+        Ok(Reactor {
+            ticker: tick,
+            made: timer,
+            begun: 0,
+            sources: Slab::new(alloc),
+            hands: Vec::new(alloc),
+            in_round: false,
+            reports,
+        })
+    }
+
+    /// Whether no round is open and there is no source.
+    pub fn is_idle(&self) -> bool
+        ensures { IsTrue result ↔ IsIdle self.now.core }
+    {
+        !self.in_round && self.sources.is_empty()
+    }
+
+    /// The number of the last round that was begun.
+    pub fn ticker(&self) -> u64
+        ensures { result ≡ self.now.core.ticker }
+    {
+        self.ticker
+    }
+
+    /// The number of the last round that was begun.
+    pub fn rounds_begun(&self) -> u64
+        ensures { result ≡ self.now.core.ticker }
+    {
+        self.ticker
+    }
+
+    /// The number of the last timer that was made.
+    pub fn timers_made(&self) -> u64
+        ensures { result ≡ self.now.core.made }
+    {
+        self.made
+    }
+
+    /// How many polled interests were begun, each first time and each time anew. It stays at `u64::MAX`.
+    pub fn interests_begun(&self) -> u64
+        ensures { result ≡ self.now.core.begun }
+    {
+        self.begun
+    }
+
+    /// Whether a source has this key.
+    pub fn contains(&self, key: usize) -> bool
+        ensures { result ≡ is_some (source_of self.now.core.sources key) }
+    {
+        self.sources.contains(key)
+    }
+
+    /// Law: the sources stand in the order of their keys, and no two have one key.
+    pub fn keys_rise(&self)
+        ensures { RisesFrom 0 self.now.core.sources }
+    {
+        let _ = &self.sources;
+    }
+
+    /// Whether a round was begun and not finished.
+    pub fn round_open(&self) -> bool
+        ensures { result ≡ is_some self.now.core.hands }
+    {
+        self.in_round
+    }
+}
+
+impl Reactor {
+    ghost use Rattle.react_core.specs.Core.{HasSource};
+
+    /// Registers a wire with the poller and gives its source a key that no source has.
+    ///
+    /// Poller: the registration failed. The reactor stays as it was after every `Err`.
+    pub fn insert_io<R: Registrar>(
+        &mut self,
+        _alloc: Global,
+        registrar: &mut R,
+        wire: u32,
+    ) -> Result<usize, ReactError>
+        ensures free { IfOk result (λ key. source_of self.old.core.sources key ≡ None) }
+        ensures inserted { IfOk result (λ key. self.new ≡ record self.old { core = inserted self.old.core key wire }) }
+        ensures err { OnErr result (self.new ≡ self.old) }
+        ensures told { InsertTold self.old.core wire result (R.events registrar.old) (R.events registrar.new) }
+        ensures cause { ReactCounted result (R.poller_faults registrar.old) (R.poller_faults registrar.new) }
+        ensures origin { R.origin registrar.new ≡ R.origin registrar.old }
+        ensures moment { R.moment registrar.new ≡ R.moment registrar.old }
+        ensures wires { R.wire_faults registrar.new ≡ R.wire_faults registrar.old }
+        ensures dials { R.dial_faults registrar.new ≡ R.dial_faults registrar.old }
+        ensures doors { R.doors registrar.new ≡ R.doors registrar.old }
+    {
+        make_room(&mut self.sources, &mut self.hands)?;
+        let key = self.sources.vacant_key();
+        registrar.add(wire, key)?;
+        Ok(put_in(&mut self.sources, Source::new(wire)))
+    }
+
+    /// Takes the source under this key out, with all that waits for it, in every case.
+    ///
+    /// Poller: the poller failed to take it out.
+    pub fn remove_io<R: Registrar>(
+        &mut self,
+        registrar: &mut R,
+        key: usize,
+    ) -> Result<(), ReactError>
+        requires { HasSource self.old.core key }
+        ensures removed { self.new ≡ record self.old { core = removed self.old.core key } }
+        ensures told { RemoveTold (source_of self.old.core.sources key) key result (R.events registrar.old) (R.events registrar.new) }
+        ensures cause { ReactCounted result (R.poller_faults registrar.old) (R.poller_faults registrar.new) }
+        ensures origin { R.origin registrar.new ≡ R.origin registrar.old }
+        ensures moment { R.moment registrar.new ≡ R.moment registrar.old }
+        ensures wires { R.wire_faults registrar.new ≡ R.wire_faults registrar.old }
+        ensures dials { R.dial_faults registrar.new ≡ R.dial_faults registrar.old }
+        ensures doors { R.doors registrar.new ≡ R.doors registrar.old }
+    {
+        let Some(source) = take_out(&mut self.sources, key) else {
+            unreachable!()
+        };
+        registrar.delete(source.wire, key)?;
+        Ok(())
+    }
+}
+
+impl Reactor {
+    ghost use Rattle.std.specs.Prelude.{List};
+    ghost use Rattle.react_core.specs.Core.{HasSource};
+    ghost use Rattle.react_core.specs.Readiness.{fresh, is_ready, arms, woken_by, poll_outcome, poll_told};
+    ghost use Rattle.react_core.specs.Step.{Step, PolledPoll, Polled, WokeAll};
+
+    /// Asks whether a source is ready in a direction, for a task that is to be woken otherwise.
+    ///
+    /// Ready exactly where a round that was begun after this interest was last begun has reported the direction; the
+    /// interest is then forgotten. Else Pending: the same task stays as it is. A different task takes the stored one's
+    /// place, the stored one is woken, and the interest begins anew. Where no task waited for the direction, the poller
+    /// is asked to report all directions that a task waits for.
+    ///
+    /// Poller: the poller refused. The reactor stays as it was after every `Err`.
+    pub fn poll_ready<R: Registrar, W: Wakes>(
+        &mut self,
+        registrar: &mut R,
+        wakes: &mut W,
+        key: usize,
+        dir: Dir,
+        task: u64,
+    ) -> Result<Poll<()>, ReactError>
+        requires { HasSource self.old.core key }
+        ensures ready { IfOk result (λ answer. is_ready answer ≡ fresh self.old.core key dir) }
+        ensures step { IfOk result (λ answer. Step self.old.core (PolledPoll key dir task) (Polled answer) (woken_by (poll_outcome self.old.core key dir task)) self.new.core) }
+        ensures woken { OnOk result (WokeAll W.woke wakes.old (woken_by (poll_outcome self.old.core key dir task)) wakes.new) }
+        ensures err { OnErr result (self.new ≡ self.old × wakes.new ≡ wakes.old) }
+        ensures refused { OnErr result (IsTrue (arms (poll_outcome self.old.core key dir task))) }
+        ensures told { R.events registrar.new ≡ told (R.events registrar.old) (poll_told self.old.core key dir task result) }
+        ensures cause { ReactCounted result (R.poller_faults registrar.old) (R.poller_faults registrar.new) }
+        ensures reports { self.new.events ≡ self.old.events }
+        ensures origin { R.origin registrar.new ≡ R.origin registrar.old }
+        ensures moment { R.moment registrar.new ≡ R.moment registrar.old }
+        ensures wires { R.wire_faults registrar.new ≡ R.wire_faults registrar.old }
+        ensures dials { R.dial_faults registrar.new ≡ R.dial_faults registrar.old }
+        ensures doors { R.doors registrar.new ≡ R.doors registrar.old }
+    {
+        let Some(source) = find(&self.sources, key) else {
+            unreachable!()
+        };
+        let interest = source.side(dir);
+        let next = Waiting {
+            since: self.ticker,
+            task: Some(task),
+        };
+        if let Some(waiting) = interest.polled {
+            if waiting.since < interest.reported {
+                put(&mut self.sources, key, source.with_polled(dir, None));
+                return Ok(Poll::Ready(()));
+            }
+            if let Some(stored) = waiting.task {
+                if stored != task {
+                    put(&mut self.sources, key, source.with_polled(dir, Some(next)));
+                    self.begun = self.begun.saturating_add(1);
+                    wakes.wake(stored);
+                }
+                return Ok(Poll::Pending);
+            }
+        }
+        let armed = source.with_polled(dir, Some(next));
+        registrar.modify(source.wire, key, armed.read.waits(), armed.write.waits())?;
+        put(&mut self.sources, key, armed);
+        self.begun = self.begun.saturating_add(1);
+        Ok(Poll::Pending)
+    }
+}
+
+impl Reactor {
+    ghost use Rattle.std.specs.Prelude.{List, map, ◌+◌};
+    ghost use Rattle.react_core.specs.Core.{IsRoundOpen};
+    ghost use Rattle.react_core.specs.Reports.{armings_by_all, armed_told, Try, Tried};
+    ghost use Rattle.react_core.specs.Round.{NumberedBy};
+    ghost use Rattle.react_core.specs.Step.{Step, Begin, Finish, Done, WokeAll, begun_round, finished_round, finish_wakes};
+
+    /// Begins a round: its number, and how long it may wait.
+    ///
+    /// Exhausted: the last round's number was `u64::MAX`. The reactor stays as it was.
+    pub fn begin_round(
+        &mut self,
+        _alloc: Global,
+        _now: u64,
+        timeout: Option<u64>,
+    ) -> Result<Begun, ReactError>
+        requires { self.old.core.hands ≡ None }
+        ensures begun { IfOk result (λ b. b ≡ record { round = self.old.core.ticker + 1; timeout = timeout }) }
+        ensures core { OnOk result (self.new ≡ record self.old { core = begun_round self.old.core }) }
+        ensures step { OnOk result (Step self.old.core Begin Done [] self.new.core) }
+        ensures err { OnErr result (self.new ≡ self.old) }
+        ensures cause { NumberedBy result self.old.core.ticker }
+        ensures exhausted { OnErr result (self.old.core.ticker ≡ u64.MAX) }
+    {
+        if self.ticker == u64::MAX {
+            return Err(ReactError::Exhausted {
+                counter: Counter::Round,
+                value: self.ticker,
+            });
+        }
+        self.ticker += 1;
+        self.hands.clear();
+        self.in_round = true;
+        Ok(Begun {
+            round: self.ticker,
+            timeout,
+        })
+    }
+
+    /// Ends a round: goes through the reports in order, arms what still waits, and wakes the tasks taken, in order.
+    ///
+    /// A report of a key without a source is passed over. Each direction that another one names is marked with this
+    /// round's number, and its task is taken, write before read; where a task of the source is left, the poller is asked
+    /// to report all directions that still wait.
+    ///
+    /// Poller: the poller refused one of these. The round is done to its end all the same, as it is where one of them
+    /// found no memory.
+    pub fn finish_round<R: Registrar, W: Wakes>(
+        &mut self,
+        _alloc: Global,
+        registrar: &mut R,
+        wakes: &mut W,
+        reports: &[Report],
+        _later: Option<u64>,
+    ) -> Result<(), ReactError>
+        requires { IsRoundOpen self.old.core }
+        ensures core { self.new ≡ record self.old { core = finished_round self.old.core reports.now } }
+        ensures step { Step self.old.core (Finish reports.now) Done (finish_wakes self.old.core reports.now) self.new.core }
+        ensures woken { WokeAll W.woke wakes.old (finish_wakes self.old.core reports.now) wakes.new }
+        ensures told { OnOk result (R.events registrar.new ≡ told (R.events registrar.old) (map armed_told (armings_by_all self.old.core.ticker self.old.core.sources reports.now))) }
+        ensures tried { (tries : List Try) × Tried (armings_by_all self.old.core.ticker self.old.core.sources reports.now) result (R.events registrar.old) (R.events registrar.new) tries }
+        ensures cause { ReactCounted result (R.poller_faults registrar.old) (R.poller_faults registrar.new) }
+        ensures origin { R.origin registrar.new ≡ R.origin registrar.old }
+        ensures moment { R.moment registrar.new ≡ R.moment registrar.old }
+        ensures wires { R.wire_faults registrar.new ≡ R.wire_faults registrar.old }
+        ensures dials { R.dial_faults registrar.new ≡ R.dial_faults registrar.old }
+        ensures doors { R.doors registrar.new ≡ R.doors registrar.old }
+    {
+        let taken = take_reports(
+            self.ticker,
+            &mut self.sources,
+            &mut self.hands,
+            registrar,
+            reports,
+        );
+        wake_all(wakes, &self.hands);
+        self.hands.clear();
+        self.in_round = false;
+        taken
+    }
+}
+
+impl Reactor {
+    ghost use Rattle.std.specs.Prelude.{List};
+    ghost use Rattle.react_core.specs.Reports.{Try};
+    ghost use Rattle.react_core.specs.Round.{Course, CourseClock, Ran, Round, Rounds, NumberedBy, OnExhausted, UnlessExhausted, RoundCounted};
+
+    /// One round over an outside: reads the clock, begins, waits, and finishes with the reports that came. The clock is
+    /// read again exactly where nothing came in time, the wait was not interrupted and its timeout wasn't zero. A wait
+    /// that failed is finished with no reports.
+    ///
+    /// Exhausted: the last round's number was `u64::MAX`; nothing is done. Poller: the poller failed in the wait or in
+    /// an arming. No round is open afterwards in any case.
+    pub fn react<O: Clock + Poller, W: Wakes>(
+        &mut self,
+        _alloc: Global,
+        outside: &mut O,
+        wakes: &mut W,
+        timeout: Option<u64>,
+    ) -> Result<(), ReactError>
+        requires { self.old.core.hands ≡ None }
+        ensures rounds { IfOk result (λ _. (r : Round) × Rounds W.woke timeout (O.events outside.old) (O.events outside.new) self.old.core self.new.core wakes.old wakes.new r) }
+        ensures ran { UnlessExhausted result ((course : Course) × (tries : List Try) × Ran W.woke timeout (O.events outside.old) (O.events outside.new) (O.moment outside.old) (O.moment outside.new) self.old.core self.new.core wakes.old wakes.new result course tries) }
+        ensures closed { self.new.core.hands ≡ None }
+        ensures reports { self.new.events ≡ self.old.events }
+        ensures numbered { NumberedBy result self.old.core.ticker }
+        ensures exhausted { OnExhausted result (self.new ≡ self.old × wakes.new ≡ wakes.old × O.events outside.new ≡ O.events outside.old × O.moment outside.new ≡ O.moment outside.old) }
+        ensures cause { RoundCounted result (O.poller_faults outside.old) (O.poller_faults outside.new) }
+        ensures origin { O.origin outside.new ≡ O.origin outside.old }
+        ensures wires { O.wire_faults outside.new ≡ O.wire_faults outside.old }
+        ensures dials { O.dial_faults outside.new ≡ O.dial_faults outside.old }
+        ensures doors { O.doors outside.new ≡ O.doors outside.old }
+    {
+        if self.ticker == u64::MAX {
+            return Err(ReactError::Exhausted {
+                counter: Counter::Round,
+                value: self.ticker,
+            });
+        }
+        let _first = outside.now()?;
+        self.ticker += 1;
+        self.hands.clear();
+        let answer = run_round(
+            self.ticker,
+            &mut self.sources,
+            &mut self.hands,
+            &mut self.reports,
+            outside,
+            wakes,
+            timeout,
+        );
+        self.in_round = false;
+        answer
+    }
+}
+
+/// Law: a source that is inserted under a free key and removed leaves the core as it was.
+pub fn removal_undoes_insertion()
+    ensures { (core : Core) (key wire : ℕ) → source_of core.sources key ≡ None → removed (inserted core key wire) key ≡ core }
+{}
+
+/// Law: an insertion puts a new source under its free key, and leaves every other key as it was.
+pub fn insertion_changes_one_key()
+    ensures { (core : Core) (key wire other : ℕ) → source_of core.sources key ≡ None → source_of (inserted core key wire).sources other ≡ (if key == other then Some (new_source wire) else source_of core.sources other) }
+{}
+
+/// Law: where keys rise, a removal empties its key, and leaves every other key as it was.
+pub fn removal_changes_one_key()
+    ensures { (core : Core) (key other : ℕ) → RisesFrom 0 core.sources → source_of (removed core key).sources other ≡ (if key == other then None else source_of core.sources other) }
+{}
