@@ -1,24 +1,24 @@
 -- From a scene that was made of a script to that script.
-use Rattle.std.proofs.Common.{◌≡◌, ℕ, ◌≤◌, Bool, true, false, List, length, Option, Result, Ok, Err, nat_lt, if◌then◌else◌, refl, subst, arith}
+use Rattle.std.proofs.Common.{◌≡◌, ℕ, ◌≤◌, Bool, true, false, List, length, map, Option, Result, Ok, Err, nat_lt, if◌then◌else◌, refl, sym, subst, arith}
 use Rattle.std.specs.Io.KnownBytes.{Consumes, IsAtEnd}
 use Rattle.react_core.specs.declared.outside.Event.{Event}
 use Rattle.bus_script.specs.Script.{Script, Refused, script}
 use Rattle.bus_script.specs.declared.ended.Ended.{Ended}
 use Rattle.bus_peers.specs.declared.session.Session.{Session}
 use Rattle.bus_peers.specs.declared.from_script.Played.{Played}
-use Rattle.bus_peers.specs.Queues.{Queues}
-use Rattle.bus_peers.specs.Plays.{Follows}
-use Rattle.bus_peers.specs.Reading.{IsOf}
-use Rattle.bus_peers.specs.Headline.{Headline}
+use Rattle.bus_peers.specs.Queues.{Queues, queues}
+use Rattle.bus_peers.specs.Reading.{IsOf, session_of}
 use Rattle.bus_open.specs.Commands.{asked}
-use Rattle.bus_open.specs.Run.{FollowFrom, Plays}
+use Rattle.bus_open.specs.Run.{ComesTo, FollowFrom, Reads, Plays, PollerFails, RunsOut, ScriptRunsOut}
 use Rattle.bus_open.specs.declared.command.Command.TheVariants.{Play}
 
 -- What comes of the scene and the sessions comes of the script.
-follow_from : (s : Script) (p : Played) (endeds : List Ended) (events : List Event) → IsOf s p → Follows p.scene.script events → Headline p.sessions.items endeds events → FollowFrom s endeds events
-follow_from s p endeds events starts follows headline = record {
-  follows = subst (λ (q : Queues). Follows q events) starts.script follows;
-  headline = subst (λ (sessions : List Session). Headline sessions endeds events) starts.sessions headline;
+follow_from : (s : Script) (p : Played) (endeds : List Ended) (events : List Event) → IsOf s p → ComesTo p.scene.script p.sessions.items p.rounds endeds events → FollowFrom s endeds events
+follow_from s p endeds events starts comes = record {
+  rounds = p.rounds;
+  given = sym starts.rounds;
+  comes = subst (λ (q : Queues). ComesTo q (map session_of s.sessions) p.rounds endeds events) starts.script
+      (subst (λ (sessions : List Session). ComesTo p.scene.script sessions p.rounds endeds events) starts.sessions comes);
 }
 
 accepted : {X : Type 0} (is_long : Bool) (r : Refused) (other : Result X Refused) (x : X) → (if is_long then Err r else other) ≡ Ok x → is_long ≡ false
@@ -33,14 +33,28 @@ is_short : (text : List ℕ) (s : Script) → script text ≡ Ok s → length te
 unfolding script
 is_short text s e = below 16777216 (length text) (accepted (nat_lt 16777216 (length text)) _ _ s e)
 
--- The whole of a run whose script was read.
-pub plays : (words : List (List ℕ)) (old new : Option (List ℕ)) (text : List ℕ) (p : Played) (endeds : List Ended) (events : List Event) → asked words ≡ Ok Play → Consumes old new text → (length text ≤ 16777216 → IsAtEnd new) → ((s : Script) × (script text ≡ Ok s) × IsOf s p) → Follows p.scene.script events → Headline p.sessions.items endeds events → Plays words old new endeds events
-plays words old new text p endeds events is_asked taken whole from follows headline = record {
+-- A script that was read.
+pub reads : (words : List (List ℕ)) (old new : Option (List ℕ)) (text : List ℕ) (s : Script) → asked words ≡ Ok Play → Consumes old new text → (length text ≤ 16777216 → IsAtEnd new) → script text ≡ Ok s → Reads words old new s
+reads words old new text s is_asked taken whole is = record {
   is_asked = is_asked;
   text = text;
   taken = taken;
-  end = whole (is_short text from.0 from.1);
-  read = from.0;
-  is_script = from.1;
-  follow = follow_from from.0 p endeds events from.2 follows headline;
+  end = whole (is_short text s is);
+  is_script = is;
 }
+
+-- The whole of a run whose script was read.
+pub plays : (words : List (List ℕ)) (old new : Option (List ℕ)) (text : List ℕ) (p : Played) (endeds : List Ended) (events : List Event) → asked words ≡ Ok Play → Consumes old new text → (length text ≤ 16777216 → IsAtEnd new) → ((s : Script) × (script text ≡ Ok s) × IsOf s p) →
+    ComesTo p.scene.script p.sessions.items p.rounds endeds events → Plays words old new endeds events
+plays words old new text p endeds events is_asked taken whole from comes = record {
+  read = from.0;
+  reads = reads words old new text from.0 is_asked taken whole from.1;
+  follow = follow_from from.0 p endeds events from.2 comes;
+}
+
+-- The scene's answers are the script's.
+pub poller-fails : (s : Script) (p : Played) → IsOf s p → PollerFails p.scene.script → PollerFails (queues (length s.sessions) s.answers)
+poller-fails s p starts fails = subst PollerFails starts.script fails
+
+pub runs-out : (s : Script) (p : Played) → IsOf s p → RunsOut p.tick p.rounds → ScriptRunsOut s
+runs-out s p starts out = (p.rounds, sym starts.rounds, rw (← starts.tick) out)

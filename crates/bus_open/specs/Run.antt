@@ -1,14 +1,17 @@
 -- What a run of the program does.
-use Rattle.std.specs.Prelude.{◌≡◌, ℕ, ◌≤◌, ◌⊎◌, Bool, true, false, List, length, map, Option, Ok, Err}
+use Rattle.std.specs.Prelude.{◌≡◌, ℕ, ◌≤◌, ◌<◌, ◌+◌, ◌-◌, ◌^◌, ◌⊎◌, Bool, true, false, List, length, map, Option, Some, Ok, Err}
 use Rattle.std.specs.List.{list_all}
 use Rattle.std.specs.Io.KnownBytes.{Consumes, IsAtEnd, Keeps}
 use Rattle.react_core.specs.declared.outside.Event.{Event}
-use Rattle.bus_script.specs.Script.{Script, Refused, script}
+use Rattle.bus_script.specs.Script.{Script, Refused, script, start_of}
 use Rattle.bus_script.specs.declared.ended.Ending.{Ending}
 use Rattle.bus_script.specs.declared.ended.Ending.TheVariants as ending
 use Rattle.bus_script.specs.declared.ended.Ended.{Ended}
-use Rattle.bus_peers.specs.Queues.{queues}
-use Rattle.bus_peers.specs.Plays.{Follows}
+use Rattle.bus_peers.specs.Queues.{Queues, queues}
+use Rattle.bus_peers.specs.Plays.{Follows, HasNoPollerFault, faults_of_poller}
+use Rattle.bus_peers.specs.declared.open.OpenError.{OpenError}
+use Rattle.bus_peers.specs.declared.open.OpenError.TheVariants as open_err
+use Rattle.bus_peers.specs.declared.session.Session.{Session}
 use Rattle.bus_peers.specs.Reading.{session_of}
 use Rattle.bus_peers.specs.Headline.{Headline}
 use Rattle.bus_open.specs.Commands.{asked}
@@ -19,22 +22,55 @@ pub record WasRead (old new : Option (List ℕ)) (text : List ℕ) : Type 0 wher
   pub taken : Consumes old new text
   pub whole : length text ≤ 16777216 → IsAtEnd new
 
--- Endings and a record follow from a script: the record is that of a new scene, from its first event on, each event has the
--- next answer of the script, and endings and record are what opening the script's sessions promises.
-pub record FollowFrom (s : Script) (endeds : List Ended) (events : List Event) : Type 0 where
-  pub follows : Follows (queues (length s.sessions) s.answers) events
-  pub headline : Headline (map session_of s.sessions) endeds events
+-- What opening these sessions over a new scene of these answers comes to: the record is the scene's, from its first event on,
+-- each event has the next answer, no call of the poller failed, and endings and record are what `open_all` promises.
+pub record ComesTo (answers : Queues) (sessions : List Session) (rounds : ℕ) (endeds : List Ended) (events : List Event) : Type 0 where
+  pub follows : Follows answers events
+  pub faultless : faults_of_poller events ≡ 0
+  -- so many interests were begun in the reactor
+  pub armed : ℕ
+  pub headline : Headline sessions rounds armed endeds events
 
--- The words ask for a script to be played, the source gave one and was read to its end, and these endings and this record
--- follow from it.
-pub record Plays (words : List (List ℕ)) (old new : Option (List ℕ)) (endeds : List Ended) (events : List Event) : Type 0 where
+-- Endings and a record follow from a script.
+pub record FollowFrom (s : Script) (endeds : List Ended) (events : List Event) : Type 0 where
+  pub rounds : ℕ
+  pub given : s.rounds ≡ Some rounds
+  pub comes : ComesTo (queues (length s.sessions) s.answers) (map session_of s.sessions) rounds endeds events
+
+-- The words ask for a script to be played, and the source gave this one and was read to its end.
+pub record Reads (words : List (List ℕ)) (old new : Option (List ℕ)) (s : Script) : Type 0 where
   pub is_asked : asked words ≡ Ok Play
   pub text : List ℕ
   pub taken : Consumes old new text
   pub end : IsAtEnd new
+  pub is_script : script text ≡ Ok s
+
+-- A script was read, and these endings and this record follow from it.
+pub record Plays (words : List (List ℕ)) (old new : Option (List ℕ)) (endeds : List Ended) (events : List Event) : Type 0 where
   pub read : Script
-  pub is_script : script text ≡ Ok read
+  pub reads : Reads words old new read
   pub follow : FollowFrom read endeds events
+
+-- A call of the poller failed, as an answer of the script has it.
+pub record PollerFails (answers : Queues) : Type 0 where
+  pub events : List Event
+  pub follows : Follows answers events
+  pub failed : 0 < faults_of_poller events
+  pub faulty : ¬ HasNoPollerFault answers
+
+-- The numbers of the rounds run out: the last one is 2 ^ 64 - 1.
+abbrev pub RunsOut : ℕ → ℕ → Type 0
+RunsOut tick rounds = 2 ^ 64 - 1 < tick + rounds
+
+-- The script's rounds, begun behind its tick, run out of numbers.
+abbrev pub ScriptRunsOut : Script → Type 0
+ScriptRunsOut s = (rounds : ℕ) × (s.rounds ≡ Some rounds) × RunsOut (start_of s.start).tick rounds
+
+-- the status of a refusal of `open_all`
+abbrev pub status_of : OpenError → ℕ
+status_of open_err.OutOfMemory = 5
+status_of open_err.Poller = 6
+status_of (open_err.Exhausted counter value) = 7
 
 -- The words are refused, or the script that was read.
 abbrev pub IsRefused : List (List ℕ) → Option (List ℕ) → Option (List ℕ) → Refused → Type 0

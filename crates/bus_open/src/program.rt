@@ -5,16 +5,15 @@ ghost use Rattle.std.specs.List.{list_all};
 ghost use Rattle.std.specs.Io.KnownBytes.{Appends, Keeps};
 ghost use Rattle.react_core.specs.Told.{Rose};
 ghost use Rattle.react_core.specs.declared.outside.Event.{Event};
-ghost use Rattle.bus_script.specs.Script.{Refused};
+ghost use Rattle.bus_script.specs.Script.{Script, Refused};
 ghost use Rattle.bus_script.specs.Printed.{printed, refusal};
 ghost use Rattle.bus_script.specs.declared.ended.Ended.{Ended};
 ghost use Rattle.bus_script.specs.declared.line.Reason.{Reason};
-ghost use Rattle.bus_peers.specs.Plays.{Follows, HasNoPollerFault};
-ghost use Rattle.bus_peers.specs.Headline.{Headline};
+ghost use Rattle.bus_peers.specs.Queues.{queues};
 ghost use Rattle.bus_peers.specs.Sessions.{is_built};
 ghost use Rattle.bus_open.specs.Streams.{GainsFront, GainsOrFails, LosesFront};
 ghost use Rattle.bus_open.specs.Commands.{asked};
-ghost use Rattle.bus_open.specs.Run.{Plays, IsRefused, all_open, is_open};
+ghost use Rattle.bus_open.specs.Run.{ComesTo, Plays, Reads, PollerFails, RunsOut, ScriptRunsOut, IsRefused, all_open, is_open, status_of};
 ghost use Rattle.bus_open.specs.declared.command.Command.TheVariants.{Play};
 
 use crate::command::asked;
@@ -73,27 +72,39 @@ fn report<K: Sink>(alloc: Global, sink: &mut K, endeds: &[Ended], events: &[Even
     }
 }
 
+/// The status of a refusal.
+fn status_of(refusal: OpenError) -> u8
+    ensures { result ≡ status_of refusal }
+{
+    match refusal {
+        OpenError::OutOfMemory => status::OUT_OF_MEMORY,
+        OpenError::Poller => status::POLLER,
+        OpenError::Exhausted { .. } => status::EXHAUSTED,
+    }
+}
+
 /// Opens the sessions of a script over its scene, and writes how they ended.
 fn perform<K: Sink>(alloc: Global, sink: &mut K, played: Played) -> u8
     requires new { played.scene.told ≡ [] }
-    requires calm { HasNoPollerFault played.scene.script }
     requires few { length played.sessions.items < 2 ^ 32 }
     requires built { list_all is_built played.sessions.items ≡ true }
-    ensures status { (result ≡ 0) ⊎ (result ≡ 1) ⊎ (result ≡ 4) ⊎ (result ≡ 5) }
+    ensures status { (result ≡ 0) ⊎ (result ≡ 1) ⊎ (result ≡ 4) ⊎ (result ≡ 5) ⊎ (result ≡ 6) ⊎ (result ≡ 7) }
     ensures opened { result ≡ 0 →
-        (endeds : List Ended) × (r : List Event) × Follows played.scene.script r
-        × Headline played.sessions.items endeds r × (all_open endeds ≡ true)
+        (endeds : List Ended) × (r : List Event)
+        × ComesTo played.scene.script played.sessions.items played.rounds endeds r × (all_open endeds ≡ true)
         × Appends (K.held sink.old) (K.held sink.new) (printed endeds r) }
     ensures other { result ≡ 1 →
-        (endeds : List Ended) × (r : List Event) × Follows played.scene.script r
-        × Headline played.sessions.items endeds r × (all_open endeds ≡ false)
+        (endeds : List Ended) × (r : List Event)
+        × ComesTo played.scene.script played.sessions.items played.rounds endeds r × (all_open endeds ≡ false)
         × Appends (K.held sink.old) (K.held sink.new) (printed endeds r) }
     ensures failed { result ≡ 4 →
-        (endeds : List Ended) × (r : List Event) × Follows played.scene.script r
-        × Headline played.sessions.items endeds r
+        (endeds : List Ended) × (r : List Event)
+        × ComesTo played.scene.script played.sessions.items played.rounds endeds r
         × Rose (K.write_faults sink.old) (K.write_faults sink.new)
         × GainsFront (K.held sink.old) (K.held sink.new) (printed endeds r) }
     ensures nothing { result ≡ 5 → Keeps (K.held sink.old) (K.held sink.new) }
+    ensures poller { result ≡ 6 → PollerFails played.scene.script × Keeps (K.held sink.old) (K.held sink.new) }
+    ensures exhausted { result ≡ 7 → RunsOut played.tick played.rounds × Keeps (K.held sink.old) (K.held sink.new) }
 {
     let Played {
         mut scene,
@@ -110,9 +121,7 @@ fn perform<K: Sink>(alloc: Global, sink: &mut K, played: Played) -> u8
     let events = scene.events();
     match opened {
         Ok(endeds) => report(alloc, sink, endeds.as_slice(), events),
-        Err(OpenError::OutOfMemory) => status::OUT_OF_MEMORY,
-        Err(OpenError::Poller) => status::POLLER,
-        Err(OpenError::Exhausted { .. }) => status::EXHAUSTED,
+        Err(refusal) => status_of(refusal),
     }
 }
 
@@ -127,7 +136,7 @@ pub fn run<S: Source, K: Sink, O: Outside>(
     sink: &mut K,
     real: &mut O,
 ) -> u8
-    ensures status { result ≤ 5 }
+    ensures status { result ≤ 7 }
 
     // Every session of the script is open.
     ensures opened { result ≡ 0 →
@@ -165,9 +174,20 @@ pub fn run<S: Source, K: Sink, O: Outside>(
     // Memory ran out, and nothing was written.
     ensures memory { result ≡ 5 → Keeps (K.held sink.old) (K.held sink.new) }
 
-    // A run without a fault of its streams ends with the results, a refusal or want of memory.
+    // A call of the poller failed, as an answer of the script has it, and nothing was written.
+    ensures poller { result ≡ 6 →
+        (s : Script) × Reads (map string_bytes words.now) (S.left source.old) (S.left source.new) s
+        × PollerFails (queues (length s.sessions) s.answers) × Keeps (K.held sink.old) (K.held sink.new) }
+
+    // The numbers of the rounds ran out, and nothing was written.
+    ensures exhausted { result ≡ 7 →
+        (s : Script) × Reads (map string_bytes words.now) (S.left source.old) (S.left source.new) s
+        × ScriptRunsOut s × Keeps (K.held sink.old) (K.held sink.new) }
+
+    // A run without a fault of its streams ends with the results, a refusal, want of memory, or as its script makes the
+    // poller or the rounds' numbers fail.
     ensures complete { ¬ Rose (S.read_faults source.old) (S.read_faults source.new) →
-        ¬ Rose (K.write_faults sink.old) (K.write_faults sink.new) → (result ≡ 0) ⊎ (result ≡ 1) ⊎ (result ≡ 2) ⊎ (result ≡ 5) }
+        ¬ Rose (K.write_faults sink.old) (K.write_faults sink.new) → (result ≡ 0) ⊎ (result ≡ 1) ⊎ (result ≡ 2) ⊎ (result ≡ 5) ⊎ (result ≡ 6) ⊎ (result ≡ 7) }
     ensures read_faults { result ≢ 3 → S.read_faults source.new ≡ S.read_faults source.old }
 
     // No command that is built touches the real outside.

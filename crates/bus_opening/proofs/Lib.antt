@@ -11,7 +11,9 @@ mod Feeds
 mod StandLemmas
 mod LeftLemmas
 mod Moving
-mod ClientMoves
+mod OpeningMoves
 mod Looking
 mod Worked
+mod WorkedServer
 mod Starting
+mod Users

@@ -1,12 +1,12 @@
 -- Worked conversations of a client, by computation.
-use Rattle.std.proofs.Common.{◌≡◌, ℕ, true, false, List, [], ◌∷◌, ◌++◌, None, refl}
+use Rattle.std.proofs.Common.{◌≡◌, ℕ, true, false, List, [], ◌∷◌, ◌++◌, Some, None, refl}
 use Rattle.std.specs.Prelude.{codes, replicate}
 use Rattle.std.specs.Fmt.{digits}
 use Rattle.hex.specs.Hex.{encode_with}
 use Rattle.std.specs.Str.{is_utf8, chars}
 use Rattle.bus_opening.specs.declared.mechanism.AuthMechanism.TheVariants.{External}
 use Rattle.bus_opening.specs.Lines.{lines, long}
-use Rattle.bus_opening.specs.Talk.{talk, more, done, ask, ask_from, send, recv, opens, left, looked_from}
+use Rattle.bus_opening.specs.Talk.{talk, more, done, ask, ask_from, send, recv, opens, handshake, left, looked_from}
 use Rattle.bus_opening.specs.Client.{Terms, client}
 
 abbrev G : List ℕ
@@ -54,3 +54,27 @@ long_at_16385 = refl
 
 not_long_at_16384 : long (replicate 16384 97) ≡ false
 not_long_at_16384 = refl
+
+-- a client that asks whether descriptors pass, and has a greeting to send
+abbrev daily : Terms
+daily = record { mechanism = External; user = 1000; hello = 108 ∷ 1 ∷ []; flatpak = false; expected = Some G; passes = true; nonce = [] }
+
+daily-both : ask (client daily) K 25 ≡ send (codes "NEGOTIATE_UNIX_FD" ++ 13 ∷ 10 ∷ codes "BEGIN" ++ 13 ∷ 10 ∷ 108 ∷ 1 ∷ [])
+unfolding ask ask_from client talk digits encode_with is_utf8 chars lib.Utf8.encode
+daily-both = refl
+
+daily-open : ask (client daily) (K ++ codes "AGREE_UNIX_FD" ++ 13 ∷ 10 ∷ 108 ∷ 2 ∷ []) 53 ≡ opens G true
+unfolding ask ask_from client talk digits encode_with is_utf8 chars lib.Utf8.encode
+daily-open = refl
+
+daily-left : left (client daily) (K ++ codes "AGREE_UNIX_FD" ++ 13 ∷ 10 ∷ 108 ∷ 2 ∷ []) 53 ≡ 108 ∷ 2 ∷ []
+unfolding left looked_from client talk digits is_utf8 chars lib.Utf8.encode
+daily-left = refl
+
+-- a client that expects another GUID
+abbrev wary : Terms
+wary = record { mechanism = External; user = 1000; hello = []; flatpak = false; expected = Some (replicate 32 48); passes = false; nonce = [] }
+
+wary-refuses : ask (client wary) K 25 ≡ handshake
+unfolding ask ask_from client talk digits encode_with is_utf8 chars lib.Utf8.encode
+wary-refuses = refl

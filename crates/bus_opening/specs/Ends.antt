@@ -1,6 +1,6 @@
 use Rattle.std.specs.Prelude.{Option, Some, None}
-use Rattle.bus_opening.specs.declared.client.Stage.{Stage}
-use Rattle.bus_opening.specs.declared.client.Stage.TheVariants as stage
+use Rattle.bus_opening.specs.declared.exchange.Stage.{Stage}
+use Rattle.bus_opening.specs.declared.exchange.Stage.TheVariants as stage
 use Rattle.bus_opening.specs.declared.verdict.Verdict.{Verdict}
 use Rattle.bus_opening.specs.declared.verdict.Verdict.TheVariants as verdict
 

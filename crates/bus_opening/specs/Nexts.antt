@@ -3,14 +3,15 @@ use Rattle.std.specs.Prelude.{◌≡◌, ℕ, ◌<◌, ◌≤◌, length, Some, 
 use Rattle.bus_opening.specs.Lines.{feed_at}
 use Rattle.bus_opening.specs.Talk.{opens, handshake, line_too_long, too_many_commands, recv}
 use Rattle.bus_opening.specs.declared.verdict.Verdict.TheVariants as verdict
-use Rattle.bus_opening.specs.declared.client.Next.{Next}
-use Rattle.bus_opening.specs.declared.client.Next.TheVariants as next
+use Rattle.bus_opening.specs.declared.exchange.Next.{Next}
+use Rattle.bus_opening.specs.declared.exchange.Next.TheVariants as next
 use Rattle.bus_opening.specs.Standing.{asks}
-use Rattle.bus_opening.specs.ClientState.{Opening, phase_of, standing}
+use Rattle.bus_opening.specs.Parts.{place_of}
+use Rattle.bus_opening.specs.Openings.{Opening, standing}
 
 -- a line is to be looked at
 pub record MayLook (o : Opening) (feed : ℕ) : Type 0 where
-  pub open_yet : IsSome (phase_of o.stage)
+  pub open_yet : IsSome (place_of o.stage)
   pub quiet : length o.waiting ≡ 0
   pub few : o.count < 64
   pub at_feed : feed ≡ feed_at o.rest

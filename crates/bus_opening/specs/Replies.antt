@@ -1,13 +1,14 @@
 -- What a client answers.
-use Rattle.std.specs.Prelude.{◌≡◌, ℕ, Bool, List, [], ◌∷◌, ◌++◌, codes, Option, Some, None, MatchOption}
+use Rattle.std.specs.Prelude.{◌≡◌, ℕ, Bool, List, [], ◌∷◌, ◌++◌, codes, Option, Some, None}
 use Rattle.bus_opening.specs.declared.command.Command.{Command}
 use Rattle.bus_opening.specs.Client.{end, negotiate, after_ok, step_or_refuse}
 use Rattle.bus_opening.specs.declared.command.Command.TheVariants as cmd
-use Rattle.bus_opening.specs.declared.client.Stage.{Stage}
-use Rattle.bus_opening.specs.declared.client.Stage.TheVariants as stage
+use Rattle.bus_opening.specs.declared.exchange.ClientStage.{ClientStage}
+use Rattle.bus_opening.specs.declared.exchange.ClientStage.TheVariants as stage
+use Rattle.bus_opening.specs.declared.exchange.Stage.{Stage}
 use Rattle.bus_opening.specs.declared.answers.Reply.{Reply}
 use Rattle.bus_opening.specs.declared.answers.Reply.TheVariants as reply
-use Rattle.bus_opening.specs.ClientState.{turn_of, phase_of}
+use Rattle.bus_opening.specs.Parts.{at_client, placed, client_phase, turn_of}
 
 abbrev pub reply_pieces : List ℕ → Reply → List (List ℕ)
 reply_pieces hello reply.Nothing = []
@@ -16,11 +17,11 @@ reply_pieces hello reply.Begin = (codes "BEGIN" ++ end ++ hello) ∷ []
 reply_pieces hello reply.Both = (negotiate ++ (codes "BEGIN" ++ end ++ hello)) ∷ []
 
 abbrev pub IsAfterOk : Option (List ℕ) → Bool → Bool → List ℕ → Stage → Reply → Type 0
-IsAfterOk expected flatpak passes guid new said = (hello : List ℕ) → turn_of new (reply_pieces hello said) ≡ after_ok (record { hello = hello; flatpak = flatpak; expected = expected; passes = passes }) guid
+IsAfterOk expected flatpak passes guid new said = (hello : List ℕ) → turn_of new (reply_pieces hello said) ≡ placed at_client (after_ok (record { hello = hello; flatpak = flatpak; expected = expected; passes = passes }) guid)
 
--- what the step table gives, where the conversation goes on
-abbrev pub AnswerIs : Option (List ℕ) → Bool → Bool → Stage → Option Command → Stage → Reply → Type 0
-AnswerIs expected flatpak passes old command new said = (hello : List ℕ) → MatchOption (phase_of old) (Unit {0}) (λ phase. turn_of new (reply_pieces hello said) ≡ step_or_refuse (record { hello = hello; flatpak = flatpak; expected = expected; passes = passes }) phase command)
+-- what the step table gives
+abbrev pub AnswerIs : Option (List ℕ) → Bool → Bool → ClientStage → Option Command → Stage → Reply → Type 0
+AnswerIs expected flatpak passes old command new said = (hello : List ℕ) → turn_of new (reply_pieces hello said) ≡ placed at_client (step_or_refuse (record { hello = hello; flatpak = flatpak; expected = expected; passes = passes }) (client_phase old) command)
 
 abbrev pub ok_guid : Option Command → Option (List ℕ)
 ok_guid (Some (cmd.Ok guid)) = Some guid

@@ -3,12 +3,11 @@
 ghost use Rattle.std.specs.Prelude.{◌≡◌, ◌<◌, ℕ, List, [], length, Some, None, IfOk, OnOk, OnErr, IsSome};
 ghost use Rattle.std.specs.Option.{option_map};
 ghost use Rattle.bus_opening.specs.Client.{text_of_line, command_in, is_expected, piece};
-ghost use Rattle.bus_opening.specs.ClientState.{phase_of};
 ghost use Rattle.bus_opening.specs.Replies.{reply_pieces, AnswerIs, IsAfterOk, IsAtAsking, IsAtBegun, ok_guid};
-ghost use Rattle.bus_opening.specs.declared.client.Stage.TheVariants.{First};
+ghost use Rattle.bus_opening.specs.declared.exchange.ClientStage.TheVariants.{First};
 
-use crate::client::Stage;
 use crate::command::{Command, CommandError};
+use crate::exchange::{ClientStage, Stage};
 use bus_address::Guid;
 use std::alloc::{AllocError, Global};
 use std::str;
@@ -24,9 +23,11 @@ pub(crate) enum Reply {
 
 // The text of a line with its line feed.
 fn line_text(line: &[u8]) -> Option<&str>
-    requires { 0 < length line.now }
     ensures { option_map (λ t. t.now) result ≡ text_of_line line.now }
 {
+    if line.is_empty() {
+        return None;
+    }
     let end = line.len().saturating_sub(2);
     if line[end] != 13 {
         return None;
@@ -39,7 +40,6 @@ fn line_text(line: &[u8]) -> Option<&str>
 
 /// The command that a line says.
 pub(crate) fn read_line(alloc: Global, line: &[u8]) -> Result<Option<Command>, AllocError>
-    requires { 0 < length line.now }
     ensures { IfOk result (λ c. c ≡ command_in (text_of_line line.now)) }
 {
     let Some(text) = line_text(line) else {
@@ -71,9 +71,9 @@ fn after_ok(expected: &Option<Guid>, flatpak: bool, passes: bool, guid: Guid) ->
         return (Stage::Done(guid, false), Reply::Begin);
     }
     if flatpak {
-        return (Stage::Asking(guid), Reply::Negotiate);
+        return (Stage::Client(ClientStage::Asking(guid)), Reply::Negotiate);
     }
-    (Stage::Begun(guid), Reply::Both)
+    (Stage::Client(ClientStage::Begun(guid)), Reply::Both)
 }
 
 // The GUID of an OK.
@@ -132,16 +132,15 @@ pub(crate) fn answer(
     expected: &Option<Guid>,
     flatpak: bool,
     passes: bool,
-    stage: Stage,
+    stage: ClientStage,
     command: &Option<Command>,
 ) -> (Stage, Reply)
     ensures { AnswerIs expected.now flatpak passes stage command.now result.0 result.1 }
 {
     match stage {
-        Stage::First => at_first(expected, flatpak, passes, command),
-        Stage::Asking(guid) => at_asking(guid, command),
-        Stage::Begun(guid) => at_begun(guid, command),
-        _ => (Stage::Refused, Reply::Nothing),
+        ClientStage::First => at_first(expected, flatpak, passes, command),
+        ClientStage::Asking(guid) => at_asking(guid, command),
+        ClientStage::Begun(guid) => at_begun(guid, command),
     }
 }
 

@@ -4,10 +4,18 @@ pub mod PlayLemmas
 pub mod QueueLemmas
 pub mod ReadingLemmas
 pub mod WaitLemmas
-mod Conversing
-mod Endings
-mod Owning
-mod Polled
-mod Visiting
-mod Endeds
-mod Registering
+pub mod Registries
+pub mod Links
+pub mod Keeps
+pub mod TagLemmas
+pub mod Talks
+pub mod Readies
+pub mod RoundLemmas
+pub mod Turns
+pub mod StayLemmas
+pub mod Firsts
+pub mod GoesLemmas
+pub mod SlotLemmas
+pub mod GoingLemmas
+pub mod ClosingLemmas
+pub mod OpenLemmas

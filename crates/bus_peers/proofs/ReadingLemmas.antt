@@ -23,8 +23,6 @@ use Rattle.bus_script.specs.declared.line.Answer.{Answer}
 use Rattle.bus_script.specs.declared.line.Answer.TheVariants as answer
 use Rattle.bus_script.specs.declared.line.SessionLine.{SessionLine}
 use Rattle.bus_script.specs.declared.line.SessionLine.TheVariants as session_line
-use Rattle.bus_peers.specs.Queues.{Queues, enqueue, empty_queues, queues}
-use Rattle.bus_peers.specs.Plays.{HasNoPollerFault}
 use Rattle.bus_peers.specs.Sessions.{goes_by_external, is_built}
 use Rattle.bus_peers.specs.Reading.{session_of}
 use Rattle.bus_peers.proofs.FaultlessLemmas.{both-left, both-right}
@@ -119,27 +117,3 @@ sessions_built (l ∷ ls) h =
 
 pub all_built : (text : List ℕ) (s : Script) → Say (lines_in text) (lines_of s) → list_all is_built (map session_of s.sessions) ≡ true
 all_built text s say = sessions_built s.sessions (parts_built s (said_built (lines_in text) (lines_of s) say)).0
-
--- answers to dialling and reads leave the poller's queues alone, and no other is built
-pub enqueued_faultless : (q : Queues) (a : Answer) → HasNoPollerFault q → is_built_line (line.Answer a) ≡ true → HasNoPollerFault (enqueue q a)
-unfolding is_built_line
-enqueued_faultless q (answer.Dial session a) h built = record { adds = h.adds; modifies = h.modifies; deletes = h.deletes; notifies = h.notifies; waits = h.waits }
-enqueued_faultless q (answer.Recv session a) h built = record { adds = h.adds; modifies = h.modifies; deletes = h.deletes; notifies = h.notifies; waits = h.waits }
-enqueued_faultless q (answer.Send session a) h built = absurd (true≢false (sym built))
-enqueued_faultless q (answer.Now t) h built = absurd (true≢false (sym built))
-enqueued_faultless q (answer.Add ok) h built = absurd (true≢false (sym built))
-enqueued_faultless q (answer.Modify ok) h built = absurd (true≢false (sym built))
-enqueued_faultless q (answer.Delete ok) h built = absurd (true≢false (sym built))
-enqueued_faultless q (answer.Notify ok) h built = absurd (true≢false (sym built))
-enqueued_faultless q (answer.Wait a) h built = absurd (true≢false (sym built))
-
-pub queued_faultless : (q : Queues) (xs : List Answer) → HasNoPollerFault q → list_all (λ a. is_built_line (line.Answer a)) xs ≡ true → HasNoPollerFault (fold enqueue q xs)
-queued_faultless q [] h built = h
-queued_faultless q (a ∷ xs) h built =
-    queued_faultless (enqueue q a) xs (enqueued_faultless q a h (both-left (is_built_line (line.Answer a)) (list_all (λ a. is_built_line (line.Answer a)) xs) built))
-    (both-right (is_built_line (line.Answer a)) (list_all (λ a. is_built_line (line.Answer a)) xs) built)
-
-pub script_faultless : (text : List ℕ) (s : Script) → Say (lines_in text) (lines_of s) → HasNoPollerFault (queues (length s.sessions) s.answers)
-script_faultless text s say =
-    queued_faultless (empty_queues (length s.sessions)) s.answers (record { adds = refl; modifies = refl; deletes = refl; notifies = refl; waits = refl })
-    (parts_built s (said_built (lines_in text) (lines_of s) say)).1

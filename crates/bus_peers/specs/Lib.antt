@@ -6,7 +6,11 @@ pub mod Reading
 pub mod Parts
 pub mod Dialled
 pub mod Alone
+pub mod Registry
+pub mod Asking
 pub mod Settled
 pub mod Headline
-pub mod Conversed
+pub mod Shown
 pub mod Visited
+pub mod Slots
+pub mod Rounds

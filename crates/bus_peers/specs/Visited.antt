@@ -1,24 +1,75 @@
--- What one visit comes to, whatever the record was before it.
-use Rattle.std.specs.Prelude.{◌≡◌, ◌≢◌, ◌-◌, ◌≤◌, ℕ, Bool, true, List, [], ◌∷◌, ◌++◌, length, take, Option, Some, None, Result, Ok, Err}
+-- What the parts of a visit do, whatever the record was before them.
+use Rattle.std.specs.Prelude.{◌≡◌, ◌≢◌, ◌<◌, ◌≤◌, ℕ, ◌+◌, Bool, true, false, List, [], ◌∷◌, ◌++◌, map, length, Option, Some, None, is_some, Result, Ok, Err}
+use Rattle.std.specs.Option.{option_and_then}
 use Rattle.react_core.specs.declared.outside.Event.{Event}
 use Rattle.react_core.specs.declared.outside.Event.TheVariants as event
 use Rattle.react_core.specs.declared.outside.Question.TheVariants as question
 use Rattle.react_core.specs.declared.outside.DialAnswer.TheVariants as dial_answer
 use Rattle.react_core.specs.declared.outside.Opened.{Opened}
-use Rattle.react_core.specs.Told.{told}
+use Rattle.react_core.specs.declared.reactor.Dir.{Dir}
+use Rattle.react_core.specs.Core.{Core, inserted}
+use Rattle.react_core.specs.Told.{told, Rose}
 use Rattle.bus_opening.specs.Talk.{Said}
+use Rattle.bus_opening.specs.Openings.{Opening, StandsIn}
+use Rattle.bus_opening.specs.declared.verdict.Verdict.{Verdict}
+use Rattle.bus_opening.specs.declared.verdict.Verdict.TheVariants as verdict
+use Rattle.bus_script.specs.declared.ended.Ending.{Ending}
+use Rattle.bus_script.specs.declared.ended.Ending.TheVariants as ending
 use Rattle.bus_script.specs.declared.ended.Ended.{Ended}
+use Rattle.bus_peers.specs.declared.session.Party.{Party}
 use Rattle.bus_peers.specs.declared.session.Session.{Session}
-use Rattle.bus_peers.specs.Parts.{part, holder, holder_from}
+use Rattle.bus_peers.specs.declared.visiting.Turn.{Turn}
+use Rattle.bus_peers.specs.declared.visiting.Turn.TheVariants as turn
+use Rattle.bus_peers.specs.declared.visiting.Slot.{Slot}
+use Rattle.bus_peers.specs.declared.visiting.Slot.TheVariants as slot
+use Rattle.bus_peers.specs.declared.open.OpenError.{OpenError}
+use Rattle.bus_peers.specs.declared.open.OpenError.TheVariants as open_err
+use Rattle.bus_peers.specs.Parts.{part}
 use Rattle.bus_peers.specs.Dialled.{first_question, conversation}
-use Rattle.bus_peers.specs.Alone.{alone, outcome}
-use Rattle.bus_peers.specs.Settled.{Visit, Run, counting}
-use Rattle.bus_peers.specs.Headline.{Each, is_awake, none_sleeps}
-use Rattle.bus_peers.specs.Conversed.{Conversed}
+use Rattle.bus_peers.specs.Alone.{Progress, converses, goes_through, outcome_of}
+use Rattle.bus_peers.specs.Headline.{after_begun}
+use Rattle.bus_peers.specs.Registry.{Held, Side, Idle, Waits, Reported, waits, side_held, held_at, with_held, registry, noted, stopped_held}
+use Rattle.bus_peers.specs.Asking.{asks, begins, arms_at, last_stop}
+use Rattle.bus_peers.specs.Settled.{AreCalls, waits_in}
+use Rattle.bus_peers.specs.Shown.{Rests, shown, Tags, tags, without_tag, tag_at, has_wire, Single}
 
 -- the record grew
 abbrev pub Grows : Option (List Event) → Option (List Event) → Type 0
 Grows before after = (more : List Event) × (after ≡ told before more)
+
+abbrev pub is_awake : Ending → Bool
+is_awake ending.Waiting = false
+is_awake e = true
+
+-- the ending that a verdict is
+abbrev pub ending_of : Verdict → Ending
+ending_of (verdict.Authenticated settled) = ending.Open settled.guid settled.cap_unix_fd
+ending_of verdict.Handshake = ending.Handshake
+ending_of verdict.Io = ending.Io
+ending_of verdict.LineTooLong = ending.LineTooLong
+ending_of verdict.TooManyCommands = ending.TooManyCommands
+
+-- A visit needs no round's number, and its answer is Poller only where the poller's count rose.
+abbrev pub VisitCounted : {T : Type 0} → Result T OpenError → ℕ → ℕ → Type 0
+VisitCounted (Ok v) before now = now ≡ before
+VisitCounted (Err open_err.Poller) before now = Rose before now
+VisitCounted (Err open_err.OutOfMemory) before now = before ≤ now
+VisitCounted (Err (open_err.Exhausted c value)) before now = ⊥
+
+-- What was told while no round came: the reactor has those wires under those keys, and its other numbers stand.
+pub record Kept (expected : Tags) (before after : Option (List Event)) (old new : Core) (more : List Event) : Type 0 where
+  pub gained : after ≡ told before more
+  pub waits : waits_in more ≡ 0
+  pub ticker : new.ticker ≡ old.ticker
+  pub made : new.made ≡ old.made
+  pub tags : tags new.sources ≡ expected
+  pub closed : new.hands ≡ None
+
+-- the same for some events
+abbrev pub Keeps : Tags → Option (List Event) → Option (List Event) → Core → Core → Type 0
+Keeps expected before after old new = (more : List Event) × Kept expected before after old new more
+
+-- ---- dialling
 
 -- the one Dial event of a session that asks for a Unix socket, and its answer
 abbrev pub dial_event : ℕ → List ℕ → Option Opened → Event
@@ -29,30 +80,197 @@ abbrev pub DialTold : {E : Type 0} → Session → ℕ → Result (Option Opened
 DialTold s wire (Ok opened) before after = (path : List ℕ) × (first_question s.party ≡ Some (question.Unix path)) × (after ≡ told before (dial_event wire path opened ∷ []))
 DialTold s wire (Err e) before after = after ≡ told before []
 
--- a conversation over a registered wire
-pub record Talked (s : Session) (wire : ℕ) (passes : Bool) (before after : Option (List Event)) (e : Ended) : Type 0 where
-  pub talk : List (List ℕ) → Said
-  pub key : ℕ
-  pub calls : List Event
-  pub begun : conversation s.party passes ≡ Some talk
-  pub gained : after ≡ told before (event.Add wire key true ∷ (calls ++ event.Delete wire key true ∷ []))
-  pub wired : e.wire ≡ wire
-  pub unread : e.moment ≡ None
-  pub conversed : Conversed talk wire e.ending e.written e.leftover calls
+-- ---- a NotReady
 
-pub record Visited (s : Session) (wire : ℕ) (e : Ended) (v : List Event) : Type 0 where
-  pub wired : e.wire ≡ wire
-  pub unread : e.moment ≡ None
-  pub comes : alone s (part wire v) ≡ Some (outcome e)
-  pub others : (w : ℕ) → w ≢ wire → part w v ≡ []
-  -- it leaves no key held
-  pub frees : (key : ℕ) → holder_from key None v ≡ None
-  pub visit : is_awake e.ending ≡ true → (q : List Event) → part wire q ≡ [] → ((key : ℕ) → holder key q ≡ None) → Visit s wire q v
+-- the wire holds the key
+abbrev pub Holds : Core → ℕ → ℕ → Type 0
+Holds core key wire = (h : Held) × (held_at (map shown core.sources) key ≡ Some h) × (h.wire ≡ wire)
 
--- so many sessions were visited
-pub record Visits (sessions : List Session) (i : ℕ) (before after : Option (List Event)) (endeds : List Ended) (q : List Event) : Type 0 where
-  pub gained : after ≡ told before q
-  pub each : Each 0 (take i sessions) endeds q
-  pub run : none_sleeps endeds ≡ true → Run sessions q (counting (length sessions - i) i)
-  pub unused : (w : ℕ) → i ≤ w → part w q ≡ []
-  pub free : (key : ℕ) → holder key q ≡ None
+abbrev pub arms_told : Option (List Event) → List Event
+arms_told None = []
+arms_told (Some events) = events
+
+abbrev pub asks_again : Option (List Event) → Bool
+asks_again None = true
+asks_again (Some events) = false
+
+-- a NotReady of this direction was noted
+pub record Readied (wire key : ℕ) (dir : Dir) (before after : Option (List Event)) (old new : Core) (again : Bool) (h : Held) : Type 0 where
+  pub was : held_at (map shown old.sources) key ≡ Some h
+  pub wired : h.wire ≡ wire
+  pub now : held_at (map shown new.sources) key ≡ Some (stopped_held dir h)
+  pub gained : after ≡ told before (arms_told (arms_at dir h (side_held dir h)))
+  pub again_so : again ≡ asks_again (arms_at dir h (side_held dir h))
+  pub shows : map shown new.sources ≡ noted wire dir (map shown old.sources)
+  pub rests : Rests new
+  pub ticker : new.ticker ≡ old.ticker
+  pub made : new.made ≡ old.made
+  pub begun : new.begun ≡ after_begun old.begun (length (arms_told (arms_at dir h (side_held dir h))))
+  pub tags : tags new.sources ≡ tags old.sources
+
+-- ---- the calls of a conversation
+
+-- a conversation at which these bytes came, whose opening stands here
+abbrev pub stands_at : (List (List ℕ) → Said) → List ℕ → Opening → Bool → Progress
+stands_at talk b c paused = converses talk (record { got = b; written = c.written; paused = paused })
+
+-- it has ended so by these calls, for the session alone
+abbrev pub EndsAs : Opening → Ending → List ℕ → List ℕ → List Event → Type 0
+EndsAs c e written leftover calls = (talk : List (List ℕ) → Said) (b : List ℕ) (paused : Bool) (p : Party) → StandsIn talk b c →
+    option_and_then outcome_of (goes_through p (Some (stands_at talk b c paused)) calls) ≡ Some (record { ending = e; written = written; leftover = leftover })
+
+-- it goes on so, paused by the last of these calls
+pub record Pauses (talk : List (List ℕ) → Said) (b : List ℕ) (c c' : Opening) (calls : List Event) (b' : List ℕ) : Type 0 where
+  pub stands : StandsIn talk b' c'
+  pub through : (paused : Bool) (p : Party) → goes_through p (Some (stands_at talk b c paused)) calls ≡ Some (stands_at talk b' c' true)
+  pub waiting : outcome_of (stands_at talk b' c' true) ≡ Some (record { ending = ending.Waiting; written = c'.written; leftover = c'.rest })
+
+abbrev pub GoesOn : Opening → Opening → List Event → Type 0
+GoesOn c c' calls = (talk : List (List ℕ) → Said) (b : List ℕ) → StandsIn talk b c → (b' : List ℕ) × Pauses talk b c c' calls b'
+
+-- the calls end with a NotReady of a direction that now waits, or not
+pub record Stops (calls : List Event) (h : Held) (waiting : Bool) : Type 0 where
+  pub dir : Dir
+  pub last : (before : Option Dir) → last_stop before calls ≡ Some dir
+  pub side : waits (side_held dir h) ≡ waiting
+
+-- how a turn ends, what it arms, and how the conversation stands then
+abbrev pub TurnsTo : Opening → Opening → List Event → Option (List Event) → Held → Turn → Type 0
+TurnsTo c c' calls o h (turn.Over e) = (o ≡ None) × (is_awake e ≡ true) × EndsAs c e c'.written c'.rest calls
+TurnsTo c c' calls o h turn.Again = (o ≡ None) × (c'.ended ≡ false) × GoesOn c c' calls × Stops calls h false
+TurnsTo c c' calls o h turn.Asleep = (is_some o ≡ true) × (c'.ended ≡ false) × GoesOn c c' calls × Stops calls h true
+
+-- One or more turns: the calls of the wire, the arming that ends them, and how the directions then stand.
+pub record Turned (wire key : ℕ) (before after : Option (List Event)) (old new : Core) (c c' : Opening) (t : Turn) (h h' : Held) (calls : List Event) (o : Option (List Event)) : Type 0 where
+  pub was : held_at (map shown old.sources) key ≡ Some h
+  pub wired : h.wire ≡ wire
+  pub now : held_at (map shown new.sources) key ≡ Some h'
+  pub wired' : h'.wire ≡ wire
+  pub gained : after ≡ told before (calls ++ arms_told o)
+  -- of its own wire, over each history at which the opening stood
+  pub own : (talk : List (List ℕ) → Said) (b : List ℕ) → StandsIn talk b c → AreCalls wire calls
+  pub asked : asks (Some (begins h)) calls ≡ Some (record { held = h'; over = o })
+  pub shows : registry (map shown old.sources) calls ≡ map shown new.sources
+  -- an arming is no wire's event, and changes no side
+  pub quiet : (held : List Held) → registry held (arms_told o) ≡ held
+  pub apart : (w : ℕ) → part w (arms_told o) ≡ []
+  pub waits : waits_in (calls ++ arms_told o) ≡ 0
+  -- the other wires' sources stand as they stood
+  pub keeps : (k : ℕ) (x : Held) → held_at (map shown old.sources) k ≡ Some x → x.wire ≢ wire → held_at (map shown new.sources) k ≡ Some x
+  pub rests : Rests new
+  pub ticker : new.ticker ≡ old.ticker
+  pub made : new.made ≡ old.made
+  pub begun : new.begun ≡ after_begun old.begun (length (arms_told o))
+  pub tags : tags new.sources ≡ tags old.sources
+  pub turned : TurnsTo c c' calls o h' t
+
+abbrev pub Turns : ℕ → ℕ → Option (List Event) → Option (List Event) → Core → Core → Opening → Opening → Turn → Type 0
+Turns wire key before after old new c c' t =
+    (h : Held) × (h' : Held) × (calls : List Event) × (o : Option (List Event)) × Turned wire key before after old new c c' t h h' calls o
+
+abbrev pub reported_side : Side → ℕ
+reported_side Idle = 0
+reported_side Waits = 0
+reported_side Reported = 1
+
+-- how often a visit may ask again
+abbrev pub reported_one : Held → ℕ
+reported_one h = reported_side h.read + reported_side h.write
+
+abbrev pub may_ask : Option Held → ℕ
+may_ask None = 0
+may_ask (Some h) = reported_one h
+
+-- a turn that asks again leaves less
+abbrev pub OnAgain : ℕ → ℕ → Turn → Type 0
+OnAgain now before turn.Again = now < before
+OnAgain now before turn.Asleep = Unit {0}
+OnAgain now before (turn.Over e) = Unit {0}
+
+abbrev pub last_turn : Option Ending → Turn
+last_turn None = turn.Asleep
+last_turn (Some e) = turn.Over e
+
+-- ---- a stay over a registered wire
+
+-- what the end of a visit tells
+abbrev pub tail_of : ℕ → ℕ → Option (List Event) → Slot → List Event
+tail_of wire key o (slot.Ended e) = event.Delete wire key true ∷ []
+tail_of wire key o (slot.Asleep s) = arms_told o
+tail_of wire key o slot.Refused = []
+
+abbrev pub tags_after : ℕ → Slot → Tags → Tags
+tags_after key (slot.Ended e) ts = without_tag ts key
+tags_after key (slot.Asleep s) ts = ts
+tags_after key slot.Refused ts = ts
+
+abbrev pub StaysAs : ℕ → ℕ → Opening → List Event → Option (List Event) → List Held → Held → Slot → Type 0
+StaysAs wire key c calls o held h (slot.Ended e) = record {
+  over : o ≡ None;
+  wired : e.wire ≡ wire;
+  unread : e.moment ≡ None;
+  awake : is_awake e.ending ≡ true;
+  ends : EndsAs c e.ending e.written e.leftover calls;
+}
+StaysAs wire key c calls o held h (slot.Asleep s) = record {
+  over : is_some o ≡ true;
+  at : s.key ≡ key;
+  open_ : s.client.ended ≡ false;
+  goes : GoesOn c s.client calls;
+  stops : Stops calls h true;
+  held : held_at held key ≡ Some h;
+}
+StaysAs wire key c calls o held h slot.Refused = ⊥
+
+pub record Stayed (wire key : ℕ) (before after : Option (List Event)) (old new : Core) (c : Opening) (s : Slot) (h h' : Held) (calls : List Event) (o : Option (List Event)) : Type 0 where
+  pub was : held_at (map shown old.sources) key ≡ Some h
+  pub wired : h.wire ≡ wire
+  pub wired' : h'.wire ≡ wire
+  pub gained : after ≡ told before (calls ++ tail_of wire key o s)
+  -- of its own wire, over each history at which the opening stood
+  pub own : (talk : List (List ℕ) → Said) (b : List ℕ) → StandsIn talk b c → AreCalls wire calls
+  pub asked : asks (Some (begins h)) calls ≡ Some (record { held = h'; over = o })
+  pub shows : registry (map shown old.sources) (calls ++ tail_of wire key o s) ≡ map shown new.sources
+  pub apart : (w : ℕ) → part w (tail_of wire key o s) ≡ []
+  pub waits : waits_in (calls ++ tail_of wire key o s) ≡ 0
+  pub keeps : (k : ℕ) (x : Held) → held_at (map shown old.sources) k ≡ Some x → x.wire ≢ wire → held_at (map shown new.sources) k ≡ Some x
+  pub rests : Rests new
+  pub ticker : new.ticker ≡ old.ticker
+  pub made : new.made ≡ old.made
+  pub begun : new.begun ≡ after_begun old.begun (length (arms_told o))
+  pub tags : tags new.sources ≡ tags_after key s (tags old.sources)
+  pub stays : StaysAs wire key c calls o (map shown new.sources) h' s
+
+abbrev pub Stays : ℕ → ℕ → Option (List Event) → Option (List Event) → Core → Core → Opening → Slot → Type 0
+Stays wire key before after old new c s =
+    (h : Held) × (h' : Held) × (calls : List Event) × (o : Option (List Event)) × Stayed wire key before after old new c s h h' calls o
+
+-- ---- a first visit
+
+-- a wire was opened: its source was registered, and the conversation begun
+pub record Registered (s : Session) (wire : ℕ) (passes : Bool) (before after : Option (List Event)) (old new : Core) (c : Slot) (talk : List (List ℕ) → Said) (client : Opening) (key : ℕ) (mid : Core) : Type 0 where
+  pub begins : conversation s.party passes ≡ Some talk
+  pub stands : StandsIn talk [] client
+  pub unwritten : client.written ≡ []
+  pub free : held_at (map shown old.sources) key ≡ None
+  pub core : mid ≡ inserted old key wire
+  pub shows : with_held (map shown old.sources) (record { key = key; wire = wire; read = Idle; write = Idle }) ≡ map shown mid.sources
+  pub stays : Stays wire key (told before (event.Add wire key true ∷ [])) after mid new client c
+
+abbrev pub Registers : Session → ℕ → Bool → Option (List Event) → Option (List Event) → Core → Core → Slot → Type 0
+Registers s wire passes before after old new c =
+    (talk : List (List ℕ) → Said) × (client : Opening) × (key : ℕ) × (mid : Core) × Registered s wire passes before after old new c talk client key mid
+
+-- a new session that sleeps has a new key
+abbrev pub FirstTags : ℕ → Tags → Tags → Slot → Type 0
+FirstTags wire old new (slot.Ended e) = new ≡ old
+FirstTags wire old new (slot.Asleep s) = (tag_at old s.key ≡ None) × (tag_at new s.key ≡ Some wire) × ((key : ℕ) → key ≢ s.key → tag_at new key ≡ tag_at old key) × ((w : ℕ) → w ≢ wire → has_wire w new ≡ has_wire w old) × (Single old → Single new)
+FirstTags wire old new slot.Refused = ⊥
+
+pub data FirstVisits (s : Session) (wire : ℕ) (before after : Option (List Event)) (old new : Core) (c : Slot) : Type 0 where
+  -- the dialling failed
+  undialled : (path : List ℕ) (e : Ended) → first_question s.party ≡ Some (question.Unix path) →
+      after ≡ told before (event.Dial wire (question.Unix path) dial_answer.Failed ∷ []) → new ≡ old → c ≡ slot.Ended e →
+      e ≡ record { ending = ending.Connection; written = []; leftover = []; wire = wire; moment = None } → FirstVisits s wire before after old new c
+  dialled : (path : List ℕ) (passes : Bool) → first_question s.party ≡ Some (question.Unix path) →
+      Registers s wire passes (told before (event.Dial wire (question.Unix path) (dial_answer.Opened passes) ∷ [])) after old new c → FirstVisits s wire before after old new c

@@ -5,7 +5,6 @@ ghost use Rattle.std.specs.List.{list_all};
 ghost use Rattle.bus_script.specs.Script.{Script, script};
 ghost use Rattle.bus_script.specs.Reading.{FailsAt};
 ghost use Rattle.bus_peers.specs.Queues.{queues};
-ghost use Rattle.bus_peers.specs.Plays.{HasNoPollerFault};
 ghost use Rattle.bus_peers.specs.Sessions.{is_built};
 ghost use Rattle.bus_peers.specs.Reading.{session_of, IsOf};
 
@@ -80,7 +79,6 @@ impl Scene {
         ensures refused { IfErr result (λ e. FailsAt e (script text.now)) }
         ensures built { IfOk result (λ played. list_all is_built played.sessions.items ≡ true) }
         ensures few { IfOk result (λ played. length played.sessions.items < 2 ^ 32) }
-        ensures faultless { IfOk result (λ played. HasNoPollerFault played.scene.script) }
     {
         let parts = read(alloc, text, form)?.into_parts();
         let Ok(sessions) = sessions_of(alloc, parts.sessions) else {

@@ -1,11 +1,14 @@
 //! Many sessions opened at once over one reactor.
 #![tactic(auto)]
 
+mod closing;
 mod from_script;
 mod open;
 mod queues;
+mod rounds;
 mod scene;
 mod session;
+mod visiting;
 
 pub use bus_script::{Ended, Ending};
 pub use from_script::Played;

@@ -1,30 +1,25 @@
 //! Opening many sessions over one reactor.
 
-ghost use Rattle.std.specs.Prelude.{◌≡◌, ◌<◌, ◌^◌, ◌++◌, ℕ, List, [], true, false, Some, None, length, IfOk};
+ghost use Rattle.std.specs.Prelude.{◌≡◌, ◌≢◌, ◌≤◌, ◌<◌, ◌^◌, ◌++◌, ◌+◌, ℕ, List, [], true, length, vec_capacity, OnOk, IfOk};
 ghost use Rattle.std.specs.List.{list_all};
 ghost use Rattle.react_core.specs.Core.{IsIdle};
-ghost use Rattle.react_core.specs.Told.{told};
+ghost use Rattle.react_core.specs.Told.{told, Rose};
 ghost use Rattle.react_core.specs.declared.outside.Event.{Event};
-ghost use Rattle.bus_opening.specs.Talk.{Said};
-ghost use Rattle.bus_opening.specs.declared.verdict.Step.TheVariants as step;
-ghost use Rattle.bus_opening.specs.ClientState.{StandsIn};
-ghost use Rattle.bus_script.specs.declared.ended.Ending.TheVariants as ending;
-ghost use Rattle.bus_peers.specs.Conversed.{Conversed, ending_of};
-ghost use Rattle.bus_peers.specs.Dialled.{conversation};
-ghost use Rattle.bus_peers.specs.Headline.{Headline, OpenCounted};
+ghost use Rattle.bus_peers.specs.Headline.{Opened, RefusedWith, OpenCounted, Completes};
 ghost use Rattle.bus_peers.specs.Plays.{faults_of_poller};
 ghost use Rattle.bus_peers.specs.Sessions.{is_built};
-ghost use Rattle.bus_peers.specs.Visited.{Grows, DialTold, Talked, Visited};
+ghost use Rattle.bus_peers.specs.Shown.{Rests, tags};
+ghost use Rattle.bus_peers.specs.Slots.{Owned, AllOpen, Went, Rested, Refuses, Halts};
+ghost use Rattle.bus_peers.specs.Visited.{VisitCounted};
 
+use crate::closing::{endeds_in, remove_sources};
+use crate::rounds::{Nobody, go_rounds};
 use crate::scene::Scene;
-use crate::session::{Party, Session};
-use bus_address::plain_path;
-use bus_opening::{Client, Handshake, Step, Verdict};
-use bus_script::{Ended, Ending};
-use react_core::outside::{Bytes, Dialer, Fault, Opened, OutOfMemory, Outside, Wire};
-use react_core::reactor::{
-    Counter, ReactError, Reactor, insertion_changes_one_key, removal_undoes_insertion,
-};
+use crate::session::Session;
+use crate::visiting::{Slot, first_visit};
+use bus_script::Ended;
+use react_core::outside::{OutOfMemory, Outside};
+use react_core::reactor::{Counter, ReactError, Reactor};
 use std::alloc::{AllocError, AllocFailed, Global};
 use thiserror::Error;
 
@@ -65,6 +60,16 @@ impl From<ReactError> for OpenError {
     }
 }
 
+impl From<AllocError> for OpenError {
+    ghost use Rattle.bus_peers.specs.declared.open.OpenError.TheVariants.{OutOfMemory};
+
+    ghost from_gives = { λ _ e. e ≡ OutOfMemory };
+
+    fn from(_: AllocError) -> Self {
+        OpenError::OutOfMemory
+    }
+}
+
 impl From<AllocFailed<Ended>> for OpenError {
     ghost use Rattle.bus_peers.specs.declared.open.OpenError.TheVariants.{OutOfMemory};
 
@@ -75,213 +80,119 @@ impl From<AllocFailed<Ended>> for OpenError {
     }
 }
 
-/// Dials for a session. None where the dialling failed.
-fn dial<D: Dialer>(
-    dialer: &mut D,
-    wire: u32,
-    session: &Session,
-) -> Result<Option<Opened>, OutOfMemory>
-    requires built { is_built session.now ≡ true }
-    ensures told { DialTold session.now wire result (D.events dialer.old) (D.events dialer.new) }
-    ensures origin { D.origin dialer.new ≡ D.origin dialer.old }
-    ensures poller { D.poller_faults dialer.new ≡ D.poller_faults dialer.old }
-{
-    match &session.party {
-        Party::Client { address, .. } => match plain_path(address.as_str()) {
-            Some(path) => match dialer.dial_unix(wire, path) {
-                Ok(opened) => Ok(Some(opened)),
-                Err(Fault::Failed) => Ok(None),
-                Err(Fault::OutOfMemory) => Err(OutOfMemory),
-            },
-            None => unreachable!(),
-        },
-        Party::Server(_) => unreachable!(),
-    }
-}
-
-/// The opening of a session over a wire that was just opened.
-fn client_of(alloc: Global, session: &Session, passes: bool) -> Result<Client, OutOfMemory>
-    requires built { is_built session.now ≡ true }
-    ensures stands { IfOk result (λ c. (talk : List (List ℕ) → Said) × (conversation session.now.party passes ≡ Some talk) × StandsIn talk [] c) }
-    ensures written { IfOk result (λ c. c.written ≡ []) }
-    ensures open { IfOk result (λ c. c.ended ≡ false) }
-{
-    match &session.party {
-        Party::Client { config, .. } => Client::new(alloc, config, None, passes, false, &[]),
-        Party::Server(_) => unreachable!(),
-    }
-}
-
-/// The ending that the answer of a poll is; none where memory ran out.
-fn ending_of(step: Step) -> Option<Ending>
-    ensures { result ≡ ending_of step }
-{
-    match step {
-        Step::Done(verdict) => Some(ending_by(verdict)),
-        Step::WantRead | Step::WantWrite => Some(Ending::Waiting),
-        Step::OutOfMemory => None,
-    }
-}
-
-/// The ending that a verdict is.
-fn ending_by(verdict: Verdict) -> Ending
-    ensures { ending_of (step.Done verdict) ≡ Some result }
-{
-    match verdict {
-        Verdict::Authenticated(settled) => Ending::Open {
-            guid: settled.guid,
-            cap_unix_fd: settled.cap_unix_fd,
-        },
-        Verdict::Handshake => Ending::Handshake,
-        Verdict::Io => Ending::Io,
-        Verdict::LineTooLong => Ending::LineTooLong,
-        Verdict::TooManyCommands => Ending::TooManyCommands,
-    }
-}
-
-/// A copy of these bytes.
-fn copied(alloc: Global, bytes: &[u8]) -> Result<Bytes, AllocError>
-    ensures { IfOk result (λ b. b ≡ bytes.now) }
-{
-    Ok(Bytes::from_vec(Vec::from_slice(alloc, bytes)?))
-}
-
-/// Polls an opening from its start on.
-fn converse<W: Wire>(
-    alloc: Global,
-    outside: &mut W,
-    wire: u32,
-    client: &mut Client,
-) -> Result<Ended, OutOfMemory>
-    requires written { client.old.written ≡ [] }
-    requires open { client.old.ended ≡ false }
-    ensures conversed { IfOk result (λ e. (talk : List (List ℕ) → Said) → StandsIn talk [] client.old →
-        (calls : List Event) × (W.events outside.new ≡ told (W.events outside.old) calls) × Conversed talk wire e.ending e.written e.leftover calls) }
-    ensures wired { IfOk result (λ e. e.wire ≡ wire) }
-    ensures unread { IfOk result (λ e. e.moment ≡ None) }
-    ensures grows { Grows (W.events outside.old) (W.events outside.new) }
-    ensures origin { W.origin outside.new ≡ W.origin outside.old }
-    ensures poller { W.poller_faults outside.new ≡ W.poller_faults outside.old }
-{
-    let step = client.poll(alloc, outside, wire);
-    let Some(ending) = ending_of(step) else {
-        return Err(OutOfMemory);
-    };
-    Ok(Ended {
-        ending,
-        written: copied(alloc, client.written())?,
-        leftover: copied(alloc, client.leftover())?,
-        wire,
-        moment: None,
-    })
-}
-
-/// Has the conversation of a session whose dialling opened a wire. Its source stands in the reactor until the
-/// conversation pauses or ends.
-fn visit_opened<O: Outside>(
+/// The first visits of all sessions, in order. Session i has wire i.
+fn open_first<O: Outside>(
     alloc: Global,
     reactor: &mut Reactor,
     outside: &mut O,
-    wire: u32,
-    session: &Session,
-    passes: bool,
-) -> Result<Ended, OpenError>
-    requires built { is_built session.now ≡ true }
-    ensures talked { IfOk result (λ e. Talked session.now wire passes (O.events outside.old) (O.events outside.new) e) }
-    ensures reactor { reactor.new ≡ reactor.old }
-    ensures cause { OpenCounted result (O.poller_faults outside.old) (O.poller_faults outside.new) }
-    ensures grows { Grows (O.events outside.old) (O.events outside.new) }
+    sessions: &Vec<Session>,
+    slots: &mut Vec<Slot>,
+) -> Result<(), OpenError>
+    requires few { length sessions.now.items < 2 ^ 32 }
+    requires built { list_all is_built sessions.now.items ≡ true }
+    requires rests { Rests reactor.old.core }
+    requires empty { reactor.old.core.sources ≡ [] }
+    requires unused { slots.old.items ≡ [] }
+    requires room { length sessions.now.items ≤ vec_capacity slots.old }
+    ensures went { OnOk result ((rounds : ℕ) → Went sessions.now.items rounds [] 0 reactor.old.core (O.events outside.old) (O.events outside.new) reactor.new.core slots.new.items) }
+    ensures rests { OnOk result (Rests reactor.new.core) }
+    ensures stands { OnOk result (AllOpen slots.new.items) }
+    ensures len { OnOk result (length slots.new.items ≡ length sessions.now.items) }
+    ensures few { length slots.new.items < 2 ^ 32 }
+    ensures owned { Owned slots.new.items (tags reactor.new.core.sources) }
+    ensures refused { Refuses result (O.events outside.old) (O.events outside.new) reactor.old.core reactor.new.core }
+    ensures cause { VisitCounted result (O.poller_faults outside.old) (O.poller_faults outside.new) }
     ensures origin { O.origin outside.new ≡ O.origin outside.old }
+    ensures reports { reactor.new.events ≡ reactor.old.events }
 {
-    insertion_changes_one_key();
-    removal_undoes_insertion();
-    let mut client = client_of(alloc, session, passes)?;
-    let key = reactor.insert_io(alloc, outside, wire)?;
-    let ended = converse(alloc, outside, wire, &mut client);
-    let removed = reactor.remove_io(outside, key);
-    let ended = ended?;
-    removed?;
-    Ok(ended)
-}
-
-/// What a session comes to whose dialling failed.
-fn unconnected(alloc: Global, wire: u32) -> Ended
-    ensures value { result ≡ record { ending = ending.Connection; written = []; leftover = []; wire = wire; moment = None } }
-{
-    Ended {
-        ending: Ending::Connection,
-        written: Bytes::from_vec(Vec::new(alloc)),
-        leftover: Bytes::from_vec(Vec::new(alloc)),
-        wire,
-        moment: None,
+    let mut wire = 0u32;
+    for session in sessions {
+        slots.push_reserved(first_visit(alloc, reactor, outside, &mut Nobody, wire, session)?);
+        wire += 1;
     }
+    Ok(())
 }
 
-/// The first visit of a session.
-fn visit<O: Outside>(
+/// All visits and rounds.
+fn open_rounds<O: Outside>(
     alloc: Global,
     reactor: &mut Reactor,
     outside: &mut O,
-    wire: u32,
-    session: &Session,
-) -> Result<Ended, OpenError>
-    requires built { is_built session.now ≡ true }
-    ensures visited { IfOk result (λ e. (v : List Event) × (O.events outside.new ≡ told (O.events outside.old) v) × Visited session.now wire e v) }
-    ensures reactor { reactor.new ≡ reactor.old }
+    sessions: &Vec<Session>,
+    rounds: u64,
+    slots: &mut Vec<Slot>,
+) -> Result<(), OpenError>
+    requires few { length sessions.now.items < 2 ^ 32 }
+    requires built { list_all is_built sessions.now.items ≡ true }
+    requires rests { Rests reactor.old.core }
+    requires empty { reactor.old.core.sources ≡ [] }
+    requires unused { slots.old.items ≡ [] }
+    requires room { length sessions.now.items ≤ vec_capacity slots.old }
+    ensures rested { OnOk result ((q : List Event) × (armed : ℕ) × Rested sessions.now.items rounds reactor.old.core (O.events outside.old) (O.events outside.new) reactor.new.core slots.new.items q armed) }
+    ensures halted { Halts result sessions.now.items rounds reactor.old.core (O.events outside.old) (O.events outside.new) reactor.new.core slots.new.items }
+    ensures len { OnOk result (length slots.new.items ≡ length sessions.now.items) }
+    ensures few { length slots.new.items < 2 ^ 32 }
+    ensures owned { Owned slots.new.items (tags reactor.new.core.sources) }
+    ensures refused { Refuses result (O.events outside.old) (O.events outside.new) reactor.old.core reactor.new.core }
     ensures cause { OpenCounted result (O.poller_faults outside.old) (O.poller_faults outside.new) }
-    ensures grows { Grows (O.events outside.old) (O.events outside.new) }
     ensures origin { O.origin outside.new ≡ O.origin outside.old }
+    ensures reports { reactor.new.events ≡ reactor.old.events }
 {
-    match dial(outside, wire, session)? {
-        Some(opened) => visit_opened(alloc, reactor, outside, wire, session, opened.passes),
-        None => Ok(unconnected(alloc, wire)),
-    }
+    open_first(alloc, reactor, outside, sessions, slots)?;
+    go_rounds(alloc, reactor, outside, slots, rounds)
 }
 
-/// Opens the sessions over any outside, one after another. Session i has wire i.
+/// Opens the sessions over any outside. Session i has wire i.
 fn open_over<O: Outside>(
     alloc: Global,
     reactor: &mut Reactor,
     outside: &mut O,
     sessions: &Vec<Session>,
+    rounds: u64,
 ) -> Result<Vec<Ended>, OpenError>
+    requires idle { IsIdle reactor.old.core }
     requires few { length sessions.now.items < 2 ^ 32 }
     requires built { list_all is_built sessions.now.items ≡ true }
-    ensures headline { IfOk result (λ endeds. (r : List Event) × (O.events outside.new ≡ told (O.events outside.old) r) × Headline sessions.now.items endeds.items r) }
-    ensures reactor { reactor.new ≡ reactor.old }
+    ensures opened { (r : List Event) × (O.events outside.new ≡ told (O.events outside.old) r) × IfOk result (λ endeds. Opened sessions.now.items rounds reactor.old.core reactor.new.core endeds.items r) × RefusedWith sessions.now.items rounds reactor.old.core reactor.new.core result r }
+    ensures idle { IsIdle reactor.new.core }
     ensures cause { OpenCounted result (O.poller_faults outside.old) (O.poller_faults outside.new) }
-    ensures grows { Grows (O.events outside.old) (O.events outside.new) }
     ensures origin { O.origin outside.new ≡ O.origin outside.old }
+    ensures reports { reactor.new.events ≡ reactor.old.events }
 {
-    let mut endeds = Vec::new(alloc);
-    let mut wire = 0u32;
-    for session in sessions {
-        endeds.push(visit(alloc, reactor, outside, wire, session)?)?;
-        wire += 1;
-    }
-    Ok(endeds)
+    reactor.counters_fit();
+    let mut slots = Vec::with_capacity(alloc, sessions.len())?;
+    let opened = open_rounds(alloc, reactor, outside, sessions, rounds, &mut slots);
+    let removed = remove_sources(reactor, outside, &slots);
+    opened?;
+    removed?;
+    endeds_in(alloc, slots)
 }
 
-/// Opens the sessions over a scene. Session i has wire i. Each is visited once: it dials, registers its wire in the
-/// reactor, and has its conversation until that ends or its wire isn't ready.
+/// Opens the sessions over a scene. Session i has wire i.
 ///
-/// At Ok each session has what its own part of the record alone decides, and where none is left asleep the record is
-/// settled. Poller: the poller failed. After every answer the reactor is as it was, idle.
+/// Each is visited once, in order: it dials, registers its wire in the reactor, and has its conversation until that ends
+/// or its wire isn't ready. Then, while one sleeps and fewer than `rounds` rounds came, one more comes, and those that it
+/// makes due are visited. At the end the sources of those that still sleep are taken out.
+///
+/// At Ok each session has what its own part of the record alone decides, and the record is settled. Poller: the poller
+/// failed. Exhausted: a round's number was needed, and the reactor's counter stood at its end. After every answer the
+/// reactor is idle.
 pub fn open_all(
     alloc: Global,
     reactor: &mut Reactor,
     scene: &mut Scene,
     sessions: Vec<Session>,
-    _rounds: u64,
+    rounds: u64,
 ) -> Result<Vec<Ended>, OpenError>
     requires idle { IsIdle reactor.old.core }
     requires few { length sessions.items < 2 ^ 32 }
     requires built { list_all is_built sessions.items ≡ true }
-    ensures headline { IfOk result (λ endeds. (r : List Event) × (scene.new.told ≡ scene.old.told ++ r) × Headline sessions.items endeds.items r) }
+    ensures opened { (r : List Event) × (scene.new.told ≡ scene.old.told ++ r) × IfOk result (λ endeds. Opened sessions.items rounds reactor.old.core reactor.new.core endeds.items r) × RefusedWith sessions.items rounds reactor.old.core reactor.new.core result r }
     ensures script { scene.new.script ≡ scene.old.script }
-    ensures grows { (more : List Event) × (scene.new.told ≡ scene.old.told ++ more) }
     ensures cause { OpenCounted result (faults_of_poller scene.old.told) (faults_of_poller scene.new.told) }
-    ensures reactor { reactor.new ≡ reactor.old }
+    ensures complete { ¬ Rose (faults_of_poller scene.old.told) (faults_of_poller scene.new.told) → reactor.old.core.ticker + rounds < 2 ^ 64 → Completes result }
+    ensures idle { IsIdle reactor.new.core }
+    ensures reports { reactor.new.events ≡ reactor.old.events }
 {
-    open_over(alloc, reactor, scene, &sessions)
+    open_over(alloc, reactor, scene, &sessions, rounds)
 }

@@ -2,7 +2,7 @@ use super::*;
 use bus_address::Guid;
 use bus_script::ScriptForm;
 use react_core::outside::Event;
-use react_core::reactor::Reactor;
+use react_core::reactor::{Counter, Reactor};
 use std::alloc::Global;
 use std::process::Abort;
 use std::test::Fail;
@@ -71,5 +71,55 @@ fn each_session_gets_what_its_own_peer_decides(rt: HostRuntime) -> Result<(), Fa
         .filter(|e| matches!(e, Event::Send { .. }))
         .count();
     assert_eq!(rt; sends, 3);
+    Ok(())
+}
+
+/// A client whose peer says nothing, and a round whose arming would fail.
+const ASLEEP: &str = "rounds 1
+client EXTERNAL 1000 - n - unix:path=/run/a
+dial 0 open n
+";
+
+const REFUSED_ARMING: &str = "rounds 1
+client EXTERNAL 1000 - n - unix:path=/run/a
+dial 0 open n
+modify fault
+";
+
+/// Opens the script's sessions over a reactor that starts at this tick: the refusal, whether the reactor is idle, and how
+/// many sources were taken out.
+fn refused(alloc: Global, script: &str, tick: u64) -> Result<(OpenError, bool, usize), Fail> {
+    let Ok(played) = Scene::from_script(alloc, script.as_bytes(), ScriptForm::Play) else {
+        return Err("script".into());
+    };
+    let Ok(mut reactor) = Reactor::starting_at(alloc, 64, tick, 0) else {
+        return Err("reactor".into());
+    };
+    let Played {
+        mut scene,
+        sessions,
+        rounds,
+        ..
+    } = played;
+    let Err(refusal) = open_all(alloc, &mut reactor, &mut scene, sessions, rounds) else {
+        return Err("opened".into());
+    };
+    let deletes = scene
+        .events()
+        .iter()
+        .filter(|e| matches!(e, Event::Delete { .. }))
+        .count();
+    Ok((refusal, reactor.is_idle(), deletes))
+}
+
+#[test]
+fn a_refusal_has_its_cause_and_leaves_the_reactor_idle(rt: HostRuntime) -> Result<(), Fail> {
+    let alloc = rt.alloc();
+    let exhausted = OpenError::Exhausted {
+        counter: Counter::Round,
+        value: u64::MAX,
+    };
+    assert!(rt; refused(alloc, ASLEEP, u64::MAX)? == (exhausted, true, 1));
+    assert!(rt; refused(alloc, REFUSED_ARMING, 0)? == (OpenError::Poller, true, 1));
     Ok(())
 }

@@ -281,12 +281,21 @@ is_built_dial _ = false
 abbrev pub is_built_recv : RecvAnswer → Bool
 is_built_recv (recvs.Got _) = true
 is_built_recv recvs.End = true
+is_built_recv recvs.NotReady = true
 is_built_recv _ = false
+
+abbrev pub is_built_answer : Answer → Bool
+is_built_answer (answers.Dial _ answer) = is_built_dial answer
+is_built_answer (answers.Recv _ answer) = is_built_recv answer
+is_built_answer (answers.Add _) = true
+is_built_answer (answers.Modify _) = true
+is_built_answer (answers.Delete _) = true
+is_built_answer (answers.Wait _) = true
+is_built_answer _ = false
 
 -- the forms that are built
 unfoldable pub is_built : Line → Bool
 is_built (lines.Rounds _) = true
 is_built (lines.Session (sessions.Client address config deadline)) = is_built_client address config deadline
-is_built (lines.Answer (answers.Dial _ answer)) = is_built_dial answer
-is_built (lines.Answer (answers.Recv _ answer)) = is_built_recv answer
+is_built (lines.Answer answer) = is_built_answer answer
 is_built _ = false

@@ -2,7 +2,7 @@
 
 ghost use Rattle.std.specs.Prelude.{◌≡◌, ◌≤◌, List, length, IfOk, Some, Ok};
 ghost use Rattle.std.specs.List.{list_all};
-ghost use Rattle.bus_script.specs.Forms.{is_built, is_built_client, is_built_dial, is_built_recv};
+ghost use Rattle.bus_script.specs.Forms.{is_built, is_built_client, is_built_answer, is_built_dial, is_built_recv};
 ghost use Rattle.bus_script.specs.Reading.{Steps, StepsAt, GivesAt, CutsLine};
 ghost use Rattle.bus_script.specs.Shape.{Say, lines_of};
 ghost use Rattle.bus_script.specs.Laws.{HasBuiltSessions, HasBuiltAnswers, NamesItsSessions, IsForward};
@@ -308,8 +308,18 @@ fn is_built(line: &Line) -> bool
                 deadline,
             },
         ) => is_built_client(address, config, *deadline),
-        Line::Answer(Answer::Dial { answer, .. }) => is_built_dial(answer),
-        Line::Answer(Answer::Recv { answer, .. }) => is_built_recv(answer),
+        Line::Answer(answer) => is_built_answer(answer),
+        _ => false,
+    }
+}
+
+fn is_built_answer(answer: &Answer) -> bool
+    ensures { result ≡ is_built_answer answer.now }
+{
+    match answer {
+        Answer::Dial { answer, .. } => is_built_dial(answer),
+        Answer::Recv { answer, .. } => is_built_recv(answer),
+        Answer::Add(_) | Answer::Modify(_) | Answer::Delete(_) | Answer::Wait(_) => true,
         _ => false,
     }
 }
@@ -327,7 +337,10 @@ fn is_built_dial(answer: &DialAnswer) -> bool
 fn is_built_recv(answer: &RecvAnswer) -> bool
     ensures { result ≡ is_built_recv answer.now }
 {
-    matches!(answer, RecvAnswer::Got(_) | RecvAnswer::End)
+    matches!(
+        answer,
+        RecvAnswer::Got(_) | RecvAnswer::End | RecvAnswer::NotReady
+    )
 }
 
 /// The first line and what follows its line feed, where there is one.

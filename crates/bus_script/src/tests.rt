@@ -83,6 +83,14 @@ fn each_form_of_a_line_is_read_refused_or_not_built(rt: HostRuntime) -> Result<(
         "dial 0 fault",
         "recv 0 bytes 0aFf",
         "recv 0 end",
+        "recv 0 again",
+        "add ok",
+        "modify fault",
+        "delete ok",
+        "wait reports",
+        "wait reports 0rw k18446744073709551615w",
+        "wait interrupted",
+        "wait fault",
         "client EXTERNAL 4294967295 - n - unix:path=/a-_./\\*Z9",
     ];
     let not_built = [
@@ -103,20 +111,12 @@ fn each_form_of_a_line_is_read_refused_or_not_built(rt: HostRuntime) -> Result<(
         "dial 0 peers 4-7F000001-4142 6-00000000000000000000000000000001-65535",
         "dial 0 nonce .",
         "dial 0 output y 2f61",
-        "recv 0 again",
         "recv 0 fault",
         "send 0 took 18446744073709551615",
         "send 0 again",
         "send 0 fault",
         "now 0",
-        "add ok",
-        "modify fault",
-        "delete ok",
         "notify fault",
-        "wait reports",
-        "wait reports 0rw k18446744073709551615w 9r",
-        "wait interrupted",
-        "wait fault",
     ];
     let formless = [
         " ",
@@ -177,7 +177,12 @@ fn each_form_of_a_line_is_read_refused_or_not_built(rt: HostRuntime) -> Result<(
         "wait reports 4294967296r",
         "wait interrupted 0r",
     ];
-    let sessions = ["dial 1 fault", "recv 1 end", "recv 4294967295 bytes 00"];
+    let sessions = [
+        "dial 1 fault",
+        "recv 1 end",
+        "recv 4294967295 bytes 00",
+        "wait reports 0rw 9r",
+    ];
     let alloc = rt.alloc();
     assert!(rt; first_other(alloc, &built, "")?.is_none());
     assert!(rt; first_other(alloc, &not_built, "refused 3 not-built\n")?.is_none());

@@ -12,7 +12,7 @@ use Rattle.react_core.specs.declared.source.Source.{Source}
 use Rattle.react_core.specs.Core.{Core}
 use Rattle.react_core.specs.Reports.{after_reports, taken_by_all, armings_by_all, Try, Tried, tries_told, worst}
 use Rattle.react_core.specs.Round.{Course, Unread, Read, Pause, Unwaited, Waited, Second, NotRead, ReadAt, Unreadable, Paused, Passed, PauseClock, IsPause, is_quiet, wait_refusal, Ran, Round, Rounds, UnlessExhausted, pause_told, pause_answer, pause_reports, reports_of, second_told, reading_told, was_tried, then_answer, answer_of}
-use Rattle.react_core.specs.Step.{WokeAll}
+use Rattle.react_core.specs.Step.{WokeAll, RoundSteps, begun_round}
 use Rattle.react_core.specs.Told.{told, told-told}
 use Rattle.react_core.proofs.Tries.{tries-ok, Tried-nothing}
 
@@ -113,6 +113,23 @@ module _ {W : Type 0} (woke : W → ℕ → W → Type 0) (timeout : Option ℕ)
       IfOk answer (λ _. (r : Round) × Rounds woke timeout r0 r1 old new wakes wakes' r)
   rounds-ok r0 r1 m0 m1 old new wakes wakes' (Ok u) ran = rounds-well r0 r1 m0 m1 old new wakes wakes' ran.0 ran.1 ran.2
   rounds-ok r0 r1 m0 m1 old new wakes wakes' (Err e) ran = tt
+
+  -- it is a round's begin, the return of its wait and its end
+  pub steps-ok : (r0 r1 : Option (List Event)) (old new : Core) (wakes wakes' : W) (answer : Result (Unit {0}) ReactError) →
+      IfOk answer (λ _. (r : Round) × Rounds woke timeout r0 r1 old new wakes wakes' r) →
+      IfOk answer (λ _. (reports : List Report) × (woken : List ℕ) × RoundSteps old reports woken new × WokeAll woke wakes woken wakes')
+  steps-ok r0 r1 old new wakes wakes' (Ok u) rounds = (
+    reports_of rounds.0.answer,
+    taken_by_all (old.ticker + 1) old.sources (reports_of rounds.0.answer),
+    record {
+      open_ = begun_round old;
+      begins = record { wakes = refl; core = refl };
+      returns = record { wakes = refl; core = refl };
+      finishes = record { wakes = refl; core = rounds.1.core };
+    },
+    rounds.1.woken,
+  )
+  steps-ok r0 r1 old new wakes wakes' (Err e) rounds = tt
 
 -- nothing is refused after a wait that was
 pub refused_alone : (timeout : Option ℕ) (r0 r1 r2 r3 : Option (List Event)) (m0 m1 ticker : ℕ) (old : List (ℕ × Source)) (got shown : List Report) (waited : Result ℕ ReactError) (taken : Result (Unit {0}) ReactError) (e : ReactError) →

@@ -17,6 +17,8 @@ pub data Kind : Type 0 where
   Remove : ℕ → Kind
   -- the begin of a round
   Begin : Kind
+  -- the return of a wait with these reports, at any time; it changes no core
+  Return : List Report → Kind
   -- the end of a round, with its reports
   Finish : List Report → Kind
 
@@ -51,8 +53,16 @@ Step old (Insert wire) (Key key) woken new = record {
 }
 Step old (Remove key) Done woken new = record { wakes : woken ≡ []; core : new ≡ removed old key }
 Step old Begin Done woken new = record { wakes : woken ≡ []; core : new ≡ begun_round old }
+Step old (Return reports) Done woken new = record { wakes : woken ≡ []; core : new ≡ old }
 Step old (Finish reports) Done woken new = record { wakes : woken ≡ finish_wakes old reports; core : new ≡ finished_round old reports }
 Step old kind answer woken new = ⊥
+
+-- a whole round: its begin, the return of its wait with these reports, and its end, which wakes these tasks
+pub record RoundSteps (old : Core) (reports : List Report) (woken : List ℕ) (new : Core) : Type 0 where
+  pub open_ : Core
+  pub begins : Step old Begin Done [] open_
+  pub returns : Step open_ (Return reports) Done [] open_
+  pub finishes : Step open_ (Finish reports) Done woken new
 
 -- one wake after another
 abbrev pub WokeAll : {W : Type 0} → (W → ℕ → W → Type 0) → W → List ℕ → W → Type 0

@@ -1,5 +1,5 @@
 //! The reactor: sources under keys, rounds and readiness.
-ghost use Rattle.std.specs.Prelude.{◌≡◌, ◌≤◌, ◌↔◌, ◌==◌, ℕ, if◌then◌else◌, None, Some, [], IsTrue, is_some, IfOk, OnOk, OnErr};
+ghost use Rattle.std.specs.Prelude.{◌≡◌, ◌≤◌, ◌<◌, ◌^◌, ◌↔◌, ◌==◌, ℕ, if◌then◌else◌, None, Some, [], IsTrue, is_some, IfOk, OnOk, OnErr};
 ghost use Rattle.react_core.specs.Causes.{ReactCounted, InsertTold, RemoveTold};
 ghost use Rattle.react_core.specs.Core.{Core, inserted, removed};
 ghost use Rattle.react_core.specs.Sources.{source_of, new_source, RisesFrom};
@@ -201,6 +201,15 @@ impl Reactor {
         ensures { RisesFrom 0 self.now.core.sources }
     {
         let _ = &self.sources;
+    }
+
+    /// Law: the counters are numbers of 64 bits.
+    pub fn counters_fit(&self)
+        ensures ticker { self.now.core.ticker < 2 ^ 64 }
+        ensures begun { self.now.core.begun < 2 ^ 64 }
+    {
+        let (ticker, begun) = (self.ticker, self.begun);
+        prove!(ticker <= u64::MAX && begun <= u64::MAX);
     }
 
     /// Whether a round was begun and not finished.
@@ -418,6 +427,8 @@ impl Reactor {
 impl Reactor {
     ghost use Rattle.std.specs.Prelude.{List};
     ghost use Rattle.react_core.specs.Reports.{Try};
+    ghost use Rattle.react_core.specs.Step.{RoundSteps, WokeAll};
+    ghost use Rattle.react_core.specs.declared.outside.Report.{Report};
     ghost use Rattle.react_core.specs.Round.{Course, CourseClock, Ran, Round, Rounds, NumberedBy, OnExhausted, UnlessExhausted, RoundCounted};
 
     /// One round over an outside: reads the clock, begins, waits, and finishes with the reports that came. The clock is
@@ -434,6 +445,7 @@ impl Reactor {
         timeout: Option<u64>,
     ) -> Result<(), ReactError>
         requires { self.old.core.hands ≡ None }
+        ensures steps { IfOk result (λ _. (reports : List Report) × (woken : List ℕ) × RoundSteps self.old.core reports woken self.new.core × WokeAll W.woke wakes.old woken wakes.new) }
         ensures rounds { IfOk result (λ _. (r : Round) × Rounds W.woke timeout (O.events outside.old) (O.events outside.new) self.old.core self.new.core wakes.old wakes.new r) }
         ensures ran { UnlessExhausted result ((course : Course) × (tries : List Try) × Ran W.woke timeout (O.events outside.old) (O.events outside.new) (O.moment outside.old) (O.moment outside.new) self.old.core self.new.core wakes.old wakes.new result course tries) }
         ensures closed { self.new.core.hands ≡ None }

@@ -66,6 +66,7 @@ fn words_and_scripts_are_refused_with_their_line_and_reason(rt: HostRuntime) -> 
     let scripts = [
         ("", "refused 0 order\n"),
         ("rounds 1\nclient", "refused 2 form\n"),
+        ("rounds 1\nrecv 0 again", "refused 2 session\n"),
         (
             "rounds 1\nclient ANONYMOUS 1000 - n - unix:path=/run/a\n",
             "refused 2 not-built\n",
@@ -110,9 +111,98 @@ send 1 424547494e0d0a took 7
 delete 1 0 ok
 ";
 
+/// A client whose peer says nothing, and who is left waiting at once.
+const ASLEEP: &str = "rounds 0
+client EXTERNAL 1000 - n - unix:path=/run/a
+dial 0 open n
+";
+
+const LEFT_WAITING: &str = "session 0 waiting 00415554482045585445524e414c2033313330333033300d0a . -
+dial 0 unix 2f72756e2f61 = open n
+add 0 0 ok
+send 0 00415554482045585445524e414c2033313330333033300d0a took 25
+recv 0 1024 again
+modify 0 0 r ok
+delete 0 0 ok
+";
+
+/// The same client, of whom a round reports the direction that does not wait.
+const REPORTED: &str = "rounds 1
+client EXTERNAL 1000 - n - unix:path=/run/a
+dial 0 open n
+wait reports 0w
+";
+
+const ARMED_AGAIN: &str = "session 0 waiting 00415554482045585445524e414c2033313330333033300d0a . -
+dial 0 unix 2f72756e2f61 = open n
+add 0 0 ok
+send 0 00415554482045585445524e414c2033313330333033300d0a took 25
+recv 0 1024 again
+modify 0 0 r ok
+now 0
+wait - reports 0w
+modify 0 0 r ok
+delete 0 0 ok
+";
+
+/// Two clients that sleep: the second is reported first, then a wait is interrupted, then the first is reported.
+const TWO_ASLEEP: &str = "rounds 3
+client EXTERNAL 1000 - n - unix:path=/run/a
+client EXTERNAL 1000 - n - unix:path=/run/b
+dial 0 open n
+dial 1 open n
+recv 0 again
+recv 0 bytes 4f4b2031323334646561646265656631323334646561646265656631323334353637380d0a
+recv 1 again
+recv 1 end
+wait reports 1r
+wait interrupted
+wait reports k0r
+";
+
+const EACH_REPORTED: &str =
+    "session 0 open:1234deadbeef1234deadbeef12345678:n 00415554482045585445524e414c2033313330333033300d0a424547494e0d0a . -
+session 1 handshake 00415554482045585445524e414c2033313330333033300d0a . -
+dial 0 unix 2f72756e2f61 = open n
+add 0 0 ok
+send 0 00415554482045585445524e414c2033313330333033300d0a took 25
+recv 0 1024 again
+modify 0 0 r ok
+dial 1 unix 2f72756e2f62 = open n
+add 1 1 ok
+send 1 00415554482045585445524e414c2033313330333033300d0a took 25
+recv 1 1024 again
+modify 1 1 r ok
+now 0
+wait - reports 1r
+recv 1 1024 end
+delete 1 1 ok
+now 0
+wait - interrupted
+now 0
+wait - reports 0r
+recv 0 1024 bytes 4f4b2031323334646561646265656631323334646561646265656631323334353637380d0a
+send 0 424547494e0d0a took 7
+delete 0 0 ok
+";
+
+/// The poller fails where the client is to wait.
+const REFUSED_ARMING: &str = "rounds 1
+client EXTERNAL 1000 - n - unix:path=/run/a
+dial 0 open n
+modify fault
+";
+
 #[test]
 fn played_scripts_print_their_endings_and_events(rt: HostRuntime) -> Result<(), Fail> {
-    let rows = [("rounds 5\n", "", 0), (TWO_CLIENTS, TWO_OPEN, 0)];
+    let rows = [
+        ("rounds 5\n", "", 0),
+        (TWO_CLIENTS, TWO_OPEN, 0),
+        (ASLEEP, LEFT_WAITING, 1),
+        (REPORTED, ARMED_AGAIN, 1),
+        (TWO_ASLEEP, EACH_REPORTED, 1),
+        (REFUSED_ARMING, "", 6),
+    ];
     for (script, text, status) in rows {
         let (sink, answer) = outcome(rt.alloc(), &["play"], script.as_bytes(), &[], 5000)?;
         assert_eq!(rt; sink.bytes(), text.as_bytes(), "{script}");

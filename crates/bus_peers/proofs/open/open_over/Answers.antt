@@ -1,35 +1,30 @@
-use Rattle.std.proofs.Common.{◌+◌, arith, refl, ap, ◌∙◌}
-use Rattle.bus_peers.proofs.Endeds.{visits-none, visits-more, headline}
-use Rattle.bus_peers.proofs.Visiting.{grows-more}
+use Rattle.bus_peers.proofs.OpenLemmas.{rested-kept, answers-none, answers-refused, answers-unremoved, answers-opened}
 use Rattle.bus_peers.proofs.open.open_over.Goals as goal
 
-pub loop-session-init : goal.loop-session-init
-loop-session-init g c = record {
-  same = c.deref-session-items.ensures.value;
-  wire = refl;
-  visits = visits-none c.deref-session-items.result.now _ c.new-endeds.result.items c.new-endeds.ensures.items;
-  reactor = refl;
-  poller = refl;
-  origin = refl;
-}
+pub returns-in_err-slots-clause-opened : goal.returns-in_err-slots-clause-opened
+returns-in_err-slots-clause-opened g c =
+    answers-none (λ endeds. endeds.items) c.from_residual.result c.args.sessions.now.items c.args.rounds (g.O.Tells.events c.args.outside.now) c.args.reactor.now.core c.from_residual.ensures.1
 
-pub returns-in_err-visit-clause-grows : goal.returns-in_err-visit-clause-grows
-returns-in_err-visit-clause-grows g c = grows-more _ _ _ c.loop-session.invariant.visits.0 c.loop-session.invariant.visits.1.gained c.visit.ensures.grows
+pub returns-in_err-opened-clause-opened : goal.returns-in_err-opened-clause-opened
+returns-in_err-opened-clause-opened g c =
+    answers-refused (λ endeds. endeds.items) c.from_residual-in_err-opened.result c.in_err-opened.field-0.0 c.args.sessions.now.items c.args.rounds (g.O.Tells.events c.args.outside.now) (g.O.Tells.events c.open_rounds-opened.new.outside)
+    (g.O.Tells.events c.remove_sources-removed.new.registrar) c.args.reactor.now.core c.open_rounds-opened.new.reactor c.remove_sources-removed.new.reactor c.open_rounds-opened.new.slots.items c.from_residual-in_err-opened.ensures.1
+    c.in_err-opened.ensures.halted c.in_err-opened.ensures.refused c.remove_sources-removed.ensures.reactor c.remove_sources-removed.ensures.removals
 
-pub returns-in_err-push-clause-grows : goal.returns-in_err-push-clause-grows
-returns-in_err-push-clause-grows g c = grows-more _ _ _ c.loop-session.invariant.visits.0 c.loop-session.invariant.visits.1.gained c.visit.ensures.grows
+pub returns-in_err-removed-clause-opened : goal.returns-in_err-removed-clause-opened
+returns-in_err-removed-clause-opened g c =
+    answers-unremoved (λ endeds. endeds.items) c.from_residual-in_err-removed.result c.in_err-removed.field-0.0 c.args.sessions.now.items c.args.rounds (g.O.Tells.events c.args.outside.now) (g.O.Tells.events c.open_rounds-opened.new.outside)
+    (g.O.Tells.events c.remove_sources-removed.new.registrar) c.args.reactor.now.core c.open_rounds-opened.new.reactor c.remove_sources-removed.new.reactor c.open_rounds-opened.new.slots.items
+    (g.O.Tells.poller_faults c.open_rounds-opened.new.outside) (g.O.Tells.poller_faults c.remove_sources-removed.new.registrar) c.from_residual-in_err-removed.ensures.1
+    c.in_ok-opened.ensures.rested c.in_err-removed.ensures.cause c.remove_sources-removed.ensures.reactor c.remove_sources-removed.ensures.removals
 
-pub loop-session-preserved : goal.loop-session-preserved
-loop-session-preserved g c = record {
-  same = c.loop-session.invariant.same;
-  wire = ap (λ n. n + 1) c.loop-session.invariant.wire;
-  visits = rw c.in_ok-push.ensures.items (visits-more c.deref-session-items.result.now c.loop-session.session-index c.session-item.result c.loop-session.endeds.items c.in_ok-visit.field-0 _ _ _
-      c.loop-session-test.true c.session-item.is c.loop-session.invariant.visits (rw c.loop-session.invariant.wire at c.in_ok-visit.ensures.visited));
-  reactor = c.visit.ensures.reactor ∙ c.loop-session.invariant.reactor;
-  poller = c.in_ok-visit.ensures.cause ∙ c.loop-session.invariant.poller;
-  origin = c.visit.ensures.origin ∙ c.loop-session.invariant.origin;
-}
+pub endeds_in-requires-clause-kept : goal.endeds_in-requires-clause-kept
+endeds_in-requires-clause-kept g c =
+    rested-kept c.args.sessions.now.items c.args.rounds c.args.reactor.now.core (g.O.Tells.events c.args.outside.now) (g.O.Tells.events c.open_rounds-opened.new.outside) c.open_rounds-opened.new.reactor.core c.open_rounds-opened.new.slots.items
+    c.in_ok-opened.ensures.rested
 
-pub returns-clause-headline : goal.returns-clause-headline
-returns-clause-headline g c = rw (← c.loop-session.invariant.same)
-    (headline c.deref-session-items.result.now c.loop-session.session-index c.loop-session.endeds.items _ _ (omega (arith, c.loop-session-test.false, c.loop-session.auto.session-index-end)) c.loop-session.invariant.visits)
+pub returns-clause-opened : goal.returns-clause-opened
+returns-clause-opened g c =
+    answers-opened (λ endeds. endeds.items) c.endeds_in.result c.args.sessions.now.items c.args.rounds (g.O.Tells.events c.args.outside.now) (g.O.Tells.events c.open_rounds-opened.new.outside) (g.O.Tells.events c.remove_sources-removed.new.registrar)
+    c.args.reactor.now.core c.open_rounds-opened.new.reactor c.remove_sources-removed.new.reactor c.open_rounds-opened.new.slots.items c.in_ok-opened.ensures.len c.in_ok-opened.ensures.rested c.remove_sources-removed.ensures.reactor
+    c.in_ok-removed.ensures.told c.endeds_in.ensures.ended c.endeds_in.ensures.err

@@ -1,8 +1,6 @@
 use Rattle.std.proofs.Common.{◌≡◌, length, ap, sym, ◌∙◌, subst, arith}
 use Rattle.std.proofs.lemmas.Grind.{common_steps}
-use Rattle.bus_peers.specs.Queues.{queues}
-use Rattle.bus_peers.specs.Plays.{Play, HasNoPollerFault}
-use Rattle.bus_peers.proofs.ReadingLemmas.{all_built, sessions_few, script_faultless}
+use Rattle.bus_peers.proofs.ReadingLemmas.{all_built, sessions_few}
 use Rattle.bus_peers.proofs.scene.Scene.from_script.Goals as goal
 
 pub returns-clause-built : goal.returns-clause-built
@@ -14,11 +12,3 @@ pub returns-clause-few : goal.returns-clause-few
 returns-clause-few c =
     let sessions : length c.in-Ok.sessions.items ≡ length c.in_ok-read.field-0.sessions = grind (arith, common_steps) in
     omega (arith, sessions, sessions_few c.args.text.now c.in_ok-read.field-0 c.in_ok-read.ensures.exact c.in_ok-read.ensures.in_order)
-
-pub returns-clause-faultless : goal.returns-clause-faultless
-returns-clause-faultless c =
-    let sessions : c.len.result ≡ length c.in_ok-read.field-0.sessions = grind (arith, common_steps) in
-    let script : c.in-Ok-new.scene.script ≡ queues (length c.in_ok-read.field-0.sessions) c.in_ok-read.field-0.answers =
-    ap (λ (p : Play). p.script) c.in-Ok-new.ensures ∙ c.in-Ok-queued.ensures ∙ ap (λ n. queues n c.into_parts-parts.result.answers.items) sessions
-    ∙ ap (λ xs. queues (length c.in_ok-read.field-0.sessions) xs) c.into_parts-parts.ensures.answers in
-    subst HasNoPollerFault (sym script) (script_faultless c.args.text.now c.in_ok-read.field-0 c.in_ok-read.ensures.in_order)

@@ -1,0 +1,62 @@
+-- What the answer of `open_all` over a new scene says of a script.
+use Rattle.std.proofs.Common.{◌≡◌, ℕ, ◌≤◌, ◌<◌, ◌+◌, ◌-◌, ◌^◌, ◌⊎◌, inl, inr, List, [], ◌++◌, Result, Ok, Err, refl, sym, ◌∙◌, ap, subst, arith}
+use Rattle.react_core.specs.declared.outside.Event.{Event}
+use Rattle.react_core.specs.Core.{Core}
+use Rattle.react_core.specs.Told.{Rose}
+use Rattle.react_core.specs.declared.reactor.Counter.{Counter}
+use Rattle.bus_script.specs.declared.ended.Ended.{Ended}
+use Rattle.bus_peers.specs.declared.session.Session.{Session}
+use Rattle.bus_peers.specs.declared.open.OpenError.{OpenError}
+use Rattle.bus_peers.specs.declared.open.OpenError.TheVariants as open_err
+use Rattle.bus_peers.specs.Queues.{Queues}
+use Rattle.bus_peers.specs.Plays.{Follows, HasNoPollerFault, faults_of_poller}
+use Rattle.bus_peers.specs.Headline.{Headline, Opened, Exhausts}
+use Rattle.bus_open.specs.Run.{ComesTo, PollerFails, RunsOut, status_of}
+
+-- at Ok
+pub comes : (answers left : Queues) (sessions : List Session) (rounds : ℕ) (old new : Core) (endeds : List Ended) (start told shown : List Event) →
+    left ≡ answers → start ≡ [] → shown ≡ told → Follows left told → faults_of_poller told ≡ faults_of_poller start →
+    ((r : List Event) × (told ≡ start ++ r) × Opened sessions rounds old new endeds r × Unit {0}) → ComesTo answers sessions rounds endeds shown
+comes answers left sessions rounds old new endeds start told shown plays none are follows calm opens = record {
+  follows = subst (λ (r : List Event). Follows answers r) (sym are) (subst (λ (q : Queues). Follows q told) plays follows);
+  faultless = ap faults_of_poller are ∙ (calm ∙ ap faults_of_poller none);
+  armed = opens.2.armed;
+  headline = subst (λ (r : List Event). Headline sessions rounds opens.2.armed endeds r) (sym (are ∙ (opens.1 ∙ ap (λ t. t ++ opens.0) none))) opens.2.headline;
+}
+
+-- where the poller failed
+pub fails : (answers left : Queues) (start told shown : List Event) → ((script : Queues) (t : List Event) → HasNoPollerFault script → Follows script t → faults_of_poller t ≡ 0) →
+    left ≡ answers → start ≡ [] → shown ≡ told → Follows left told → Rose (faults_of_poller start) (faults_of_poller told) → PollerFails answers
+fails answers left start told shown law plays none are follows rose =
+    let here : Follows answers shown = subst (λ (r : List Event). Follows answers r) (sym are) (subst (λ (q : Queues). Follows q told) plays follows) in
+    let rose' : Rose 0 (faults_of_poller shown) = rw are (subst (λ (r : List Event). Rose (faults_of_poller r) (faults_of_poller told)) none rose) in
+    let some : 0 < faults_of_poller shown = omega (arith, rose') in
+    record {
+      events = shown;
+      follows = here;
+      failed = some;
+      faulty = λ calm. omega (arith, some, law answers shown calm here);
+    }
+
+-- which refusals these statuses are
+pub poller-alone : (e : OpenError) → status_of e ≡ 6 → e ≡ open_err.Poller
+poller-alone open_err.OutOfMemory six = absurd (cc)
+poller-alone open_err.Poller six = refl
+poller-alone (open_err.Exhausted c value) six = absurd (cc)
+
+pub exhausted-alone : (e : OpenError) → status_of e ≡ 7 → (c : Counter) × (value : ℕ) × (e ≡ open_err.Exhausted c value)
+exhausted-alone open_err.OutOfMemory seven = absurd (cc)
+exhausted-alone open_err.Poller seven = absurd (cc)
+exhausted-alone (open_err.Exhausted c value) seven = (c, value, refl)
+
+-- where the numbers ran out
+pub runs-out : (sessions : List Session) (rounds tick : ℕ) (old : Core) (events : List Event) → old.ticker ≡ tick → Exhausts sessions rounds old events → RunsOut tick rounds
+runs-out sessions rounds tick old events starts exhausts =
+    let last = exhausts.last in
+    let left = exhausts.left in
+    omega (arith, last, left, starts)
+
+pub one-of : (e : OpenError) → (status_of e ≡ 0) ⊎ (status_of e ≡ 1) ⊎ (status_of e ≡ 4) ⊎ (status_of e ≡ 5) ⊎ (status_of e ≡ 6) ⊎ (status_of e ≡ 7)
+one-of open_err.OutOfMemory = inr (inr (inr (inl refl)))
+one-of open_err.Poller = inr (inr (inr (inr (inl refl))))
+one-of (open_err.Exhausted c value) = inr (inr (inr (inr (inr refl))))

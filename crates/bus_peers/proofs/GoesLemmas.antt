@@ -1,0 +1,384 @@
+-- What a visit over the reactor comes to, in the record.
+use Rattle.std.proofs.Common.{rules, ◌≡◌, ◌≢◌, ◌<◌, ◌^◌, ℕ, ◌+◌, Bool, true, false, ◌||◌, ◌==◌, if◌then◌else◌, List, [], ◌∷◌, ◌++◌, map, length, Option, Some, None, is_some, refl, sym, ◌∙◌, ap, subst, inl, arith}
+use Rattle.std.specs.Option.{option_map, option_and_then}
+use Rattle.std.proofs.lemmas.List.{append_assoc, append-nil}
+use Rattle.std.proofs.lemmas.Bool.Decides.{nat_tests}
+use Rattle.react_core.specs.declared.outside.Event.{Event}
+use Rattle.react_core.specs.declared.outside.Event.TheVariants as event
+use Rattle.react_core.specs.declared.outside.RecvAnswer.TheVariants as recv_answer
+use Rattle.react_core.specs.declared.outside.SendAnswer.TheVariants as send_answer
+use Rattle.react_core.specs.declared.outside.DialAnswer.TheVariants as dial_answer
+use Rattle.react_core.specs.declared.outside.Question.TheVariants as question
+use Rattle.react_core.specs.declared.reactor.Dir.{Dir}
+use Rattle.react_core.specs.declared.reactor.Dir.TheVariants.{Read, Write}
+use Rattle.react_core.specs.Core.{Core, inserted}
+use Rattle.react_core.specs.Told.{told, told-told}
+use Rattle.bus_opening.specs.Talk.{Said}
+use Rattle.bus_opening.specs.Openings.{Opening, StandsIn}
+use Rattle.bus_script.specs.declared.ended.Ending.{Ending}
+use Rattle.bus_script.specs.declared.ended.Ending.TheVariants as ending
+use Rattle.bus_script.specs.declared.ended.Ended.{Ended}
+use Rattle.bus_peers.specs.declared.session.Session.{Session}
+use Rattle.bus_peers.specs.declared.visiting.Slot.{Slot}
+use Rattle.bus_peers.specs.declared.visiting.Slot.TheVariants as slot
+use Rattle.bus_peers.specs.declared.visiting.Sleeper.{Sleeper}
+use Rattle.bus_peers.specs.Parts.{part}
+use Rattle.bus_peers.specs.Dialled.{first_question, conversation}
+use Rattle.bus_peers.specs.Alone.{Outcome, dials, goes_through, outcome_of, alone, outcome, HasEnded}
+use Rattle.bus_peers.specs.Headline.{after_begun}
+use Rattle.bus_peers.specs.Registry.{Held, Side, Idle, Waits, Reported, waits, stopped_held, held_at, with_held, registry}
+use Rattle.bus_peers.specs.Asking.{Asking, asks, begins, arms_at, asking_at, last_stop}
+use Rattle.bus_peers.specs.Settled.{Sleeps, undialled, first, again, Stay, ends, sleeps, AreCalls, waits_in, armings_in}
+use Rattle.bus_peers.specs.Shown.{Rests, shown}
+use Rattle.bus_peers.specs.Slots.{Talking, Stands, Goes}
+use Rattle.bus_peers.specs.Visited as visited
+use Rattle.bus_peers.specs.Visited.{is_awake, arms_told, stands_at, Pauses, Stays, Stayed, Registered, FirstVisits}
+use Rattle.bus_peers.proofs.Talks.{bytes_eq-refl, part-append, registry-append, last_stop-append, goes-append, waits_in-append, armings_in-append, part-own, part-other, calls-no-armings}
+use Rattle.bus_peers.proofs.Keeps.{with-keeps}
+
+same_number : (n : ℕ) → (n == n) ≡ true
+same_number n = grind (arith, nat_tests)
+
+other_number : (n m : ℕ) → m ≢ n → (n == m) ≡ false
+other_number n m other = grind (arith, nat_tests, other)
+
+plus_none : (a b : ℕ) → a ≡ 0 → a + b ≡ b
+plus_none a b e = omega arith
+
+other_dial : (wire w key : ℕ) (path : List ℕ) (passes : Bool) → w ≢ wire → part w (event.Dial wire (question.Unix path) (dial_answer.Opened passes) ∷ event.Add wire key true ∷ []) ≡ []
+other_dial wire w key path passes other = rw (other_number wire w other) refl
+
+same_key : (a b : ℕ) → (a == b) ≡ true → a ≡ b
+same_key a b e = grind (arith, nat_tests)
+
+-- ---- an arming is nothing but Modify events
+
+abbrev Arms : Option (List Event) → Type 0
+Arms o = armings_in (arms_told o) ≡ length (arms_told o)
+
+arms_if : (b : Bool) (wire key : ℕ) (read write : Bool) → Arms (Some (if b then event.Modify wire key read write true ∷ [] else []))
+arms_if true wire key read write = refl
+arms_if false wire key read write = refl
+
+arms-at : (dir : Dir) (h : Held) (side : Side) → Arms (arms_at dir h side)
+arms-at dir h Idle = let after : Held = stopped_held dir h in arms_if (waits after.read || waits after.write) after.wire after.key (waits after.read) (waits after.write)
+arms-at dir h Waits = refl
+arms-at dir h Reported = refl
+
+arms-next : (t : Asking) (e : Event) → Arms t.over → Arms (asking_at t e).over
+arms-next t (event.Recv w asked recv_answer.NotReady) arms = arms-at Read t.held t.held.read
+arms-next t (event.Send w offered send_answer.NotReady) arms = arms-at Write t.held t.held.write
+arms-next t e arms = arms
+
+asks-none : (calls : List Event) (t : Asking) → asks None calls ≡ Some t → None ≡ Some t
+asks-none [] t is = is
+asks-none (e ∷ calls) t is = asks-none calls t is
+
+arms_go : (t : Asking) (e : Event) (calls : List Event) (t' : Asking) (b : Bool) → is_some t.over ≡ b → Arms t.over → asks (Some t) (e ∷ calls) ≡ Some t' →
+    (Arms (asking_at t e).over → asks (Some (asking_at t e)) calls ≡ Some t' → Arms t'.over) → Arms t'.over
+arms_go t e calls t' true stopped arms is ih = let no_way : None ≡ Some t' = asks-none calls t' (rw stopped at is) in cc
+arms_go t e calls t' false stopped arms is ih = ih (arms-next t e arms) (rw stopped at is)
+
+arms-asks : (t : Asking) (calls : List Event) (t' : Asking) → Arms t.over → asks (Some t) calls ≡ Some t' → Arms t'.over
+arms-asks t [] t' arms is = let same : t ≡ t' = cc in subst (λ x. Arms x.over) same arms
+arms-asks t (e ∷ calls) t' arms is = arms_go t e calls t' (is_some t.over) refl arms is (arms-asks (asking_at t e) calls t')
+
+-- each event of the arming that a visit ends with is a Modify
+pub arms-counted : (h h' : Held) (calls : List Event) (o : Option (List Event)) → asks (Some (begins h)) calls ≡ Some (record { held = h'; over = o }) → armings_in (arms_told o) ≡ length (arms_told o)
+arms-counted h h' calls o is = arms-asks (begins h) calls (record { held = h'; over = o }) refl is
+
+-- ---- a session alone
+
+-- an ending that is not Waiting
+pub awake-not_waiting : (e : Ending) → is_awake e ≡ true → e ≢ ending.Waiting
+awake-not_waiting e up same = let asleep : is_awake ending.Waiting ≡ true = subst (λ x. is_awake x ≡ true) same up in absurd (search rules)
+
+pub part-quiet : (w : ℕ) (q v : List Event) → part w v ≡ [] → part w (q ++ v) ≡ part w q
+part-quiet w q v none = part-append w q v ∙ (ap (λ x. part w q ++ x) none ∙ append-nil (part w q))
+
+-- where the session's conversation stands, it goes on with these calls
+alone-more : (s : Session) (wire : ℕ) (q calls : List Event) (talk : List (List ℕ) → Said) (b : List ℕ) (paused : Bool) (c : Opening) →
+    goes_through s.party (option_map dials (first_question s.party)) (part wire q) ≡ Some (stands_at talk b c paused) → AreCalls wire calls →
+    alone s (part wire (q ++ calls)) ≡ option_and_then outcome_of (goes_through s.party (Some (stands_at talk b c paused)) calls)
+unfolding alone
+alone-more s wire q calls talk b paused c through own =
+    ap (λ x. option_and_then outcome_of (goes_through s.party (option_map dials (first_question s.party)) x)) (part-append wire q calls ∙ ap (λ x. part wire q ++ x) (part-own wire calls own))
+    ∙ (ap (option_and_then outcome_of) (goes-append s.party (option_map dials (first_question s.party)) (part wire q) calls)
+    ∙ ap (λ t. option_and_then outcome_of (goes_through s.party t calls)) through)
+
+through-more : (s : Session) (wire : ℕ) (q calls : List Event) (talk : List (List ℕ) → Said) (b b' : List ℕ) (paused : Bool) (c c' : Opening) →
+    goes_through s.party (option_map dials (first_question s.party)) (part wire q) ≡ Some (stands_at talk b c paused) → AreCalls wire calls → Pauses talk b c c' calls b' →
+    goes_through s.party (option_map dials (first_question s.party)) (part wire (q ++ calls)) ≡ Some (stands_at talk b' c' true)
+through-more s wire q calls talk b b' paused c c' through own goes =
+    ap (goes_through s.party (option_map dials (first_question s.party))) (part-append wire q calls ∙ ap (λ x. part wire q ++ x) (part-own wire calls own))
+    ∙ (goes-append s.party (option_map dials (first_question s.party)) (part wire q) calls
+    ∙ (ap (λ t. goes_through s.party t calls) through ∙ goes.through paused s.party))
+
+-- ---- a stay
+
+-- what a stay over a registered wire comes to, in the record
+record StayGoes (s : Session) (wire : ℕ) (q : List Event) (key : ℕ) (before after : Option (List Event)) (old new : Core) (c : Slot) (v : List Event) : Type 0 where
+  gained : after ≡ told before v
+  stay : Stay s wire q key v
+  shows : registry [] (q ++ v) ≡ map shown new.sources
+  others : (w : ℕ) → w ≢ wire → part w v ≡ []
+  keeps : (k : ℕ) (x : Held) → held_at (registry [] q) k ≡ Some x → x.wire ≢ wire → held_at (registry [] (q ++ v)) k ≡ Some x
+  rests : Rests new
+  ticker : new.ticker ≡ old.ticker
+  made : new.made ≡ old.made
+  begun : new.begun ≡ after_begun old.begun (armings_in v)
+  waits : waits_in v ≡ 0
+  stands : (pending : List ℕ) → Stands s wire pending (q ++ v) c
+
+held_key_go : (x : Held) (held : List Held) (key : ℕ) (h : Held) (b : Bool) → (x.key == key) ≡ b → held_at (x ∷ held) key ≡ Some h → (held_at held key ≡ Some h → h.key ≡ key) → h.key ≡ key
+held_key_go x held key h true e is ih = let here : Some x ≡ Some h = rw e at is in let f : x ≡ h = cc in ap (λ y. y.key) (sym f) ∙ same_key x.key key e
+held_key_go x held key h false e is ih = ih (rw e at is)
+
+pub held-key : (held : List Held) (key : ℕ) (h : Held) → held_at held key ≡ Some h → h.key ≡ key
+held-key [] key h is = cc
+held-key (x ∷ held) key h is = held_key_go x held key h (x.key == key) refl is (held-key held key h)
+
+stay-ends : (s : Session) (wire key : ℕ) (q calls : List Event) (h h' : Held) (o : Option (List Event)) → held_at (registry [] q) key ≡ Some h → h.wire ≡ wire → AreCalls wire calls →
+    asks (Some (begins h)) calls ≡ Some (record { held = h'; over = o }) → HasEnded s wire (q ++ calls) → o ≡ None → Stay s wire q key (calls ++ event.Delete wire key true ∷ [])
+stay-ends s wire key q calls h h' None at wired own asked over e = ends h h' calls at wired own asked over
+stay-ends s wire key q calls h h' (Some ms) at wired own asked over e = cc
+
+stay-sleeps : (s : Session) (wire key : ℕ) (q calls : List Event) (h h' : Held) (o : Option (List Event)) → held_at (registry [] q) key ≡ Some h → h.wire ≡ wire → AreCalls wire calls →
+    asks (Some (begins h)) calls ≡ Some (record { held = h'; over = o }) → Sleeps s wire (q ++ (calls ++ arms_told o)) → is_some o ≡ true → Stay s wire q key (calls ++ arms_told o)
+stay-sleeps s wire key q calls h h' None at wired own asked asleep e = cc
+stay-sleeps s wire key q calls h h' (Some ms) at wired own asked asleep e = sleeps h h' calls ms at wired own asked asleep
+
+others-stay : (wire w : ℕ) (calls tail : List Event) → AreCalls wire calls → part w tail ≡ [] → w ≢ wire → part w (calls ++ tail) ≡ []
+others-stay wire w calls tail own none other = part-append w calls tail ∙ (ap (λ x. x ++ part w tail) (part-other wire w calls own other) ∙ none)
+
+armings-stay : (wire : ℕ) (calls tail : List Event) → AreCalls wire calls → armings_in (calls ++ tail) ≡ armings_in tail
+armings-stay wire calls tail own =
+    let split : armings_in (calls ++ tail) ≡ armings_in calls + armings_in tail = armings_in-append calls tail in
+    let none : armings_in calls ≡ 0 = calls-no-armings wire calls own in
+    let join : armings_in calls + armings_in tail ≡ armings_in tail = plus_none (armings_in calls) (armings_in tail) none in
+    split ∙ join
+
+no-arms : (o : Option (List Event)) → o ≡ None → 0 ≡ length (arms_told o)
+no-arms None e = refl
+no-arms (Some ms) e = cc
+
+module _ (s : Session) (wire key : ℕ) (q : List Event) (r0 r1 : Option (List Event)) (old new : Core) (c : Opening) (talk : List (List ℕ) → Said) (b : List ℕ) (paused : Bool)
+    (same : registry [] q ≡ map shown old.sources) (stands : StandsIn talk b c)
+    (through : goes_through s.party (option_map dials (first_question s.party)) (part wire q) ≡ Some (stands_at talk b c paused)) where
+  shows-stay : (v : List Event) → registry (map shown old.sources) v ≡ map shown new.sources → registry [] (q ++ v) ≡ map shown new.sources
+  shows-stay v shows = registry-append [] q v ∙ (ap (λ y. registry y v) same ∙ shows)
+
+  keeps-stay : (v : List Event) → registry (map shown old.sources) v ≡ map shown new.sources →
+      ((k : ℕ) (x : Held) → held_at (map shown old.sources) k ≡ Some x → x.wire ≢ wire → held_at (map shown new.sources) k ≡ Some x) →
+      (k : ℕ) (x : Held) → held_at (registry [] q) k ≡ Some x → x.wire ≢ wire → held_at (registry [] (q ++ v)) k ≡ Some x
+  keeps-stay v shows keeps k x at other = ap (λ y. held_at y k) (shows-stay v shows) ∙ keeps k x (ap (λ y. held_at y k) (sym same) ∙ at) other
+
+  stay-ended : (e : Ended) (h h' : Held) (calls : List Event) (o : Option (List Event)) → Stayed wire key r0 r1 old new c (slot.Ended e) h h' calls o →
+      StayGoes s wire q key r0 r1 old new (slot.Ended e) (calls ++ event.Delete wire key true ∷ [])
+  stay-ended e h h' calls o x =
+      let tail : List Event = event.Delete wire key true ∷ [] in
+      let own : AreCalls wire calls = x.own talk b stands in
+      let out : alone s (part wire (q ++ calls)) ≡ Some (outcome e) = alone-more s wire q calls talk b paused c through own ∙ x.stays.ends talk b paused s.party stands in
+      let out' : alone s (part wire (q ++ (calls ++ tail))) ≡ Some (outcome e) = ap (λ y. alone s (part wire y)) (sym (append_assoc q calls tail)) ∙ (ap (alone s) (part-quiet wire (q ++ calls) tail refl) ∙ out) in
+      record {
+        gained = x.gained;
+        stay = stay-ends s wire key q calls h h' o (ap (λ y. held_at y key) same ∙ x.was) x.wired own x.asked (outcome e, out, awake-not_waiting e.ending x.stays.awake) x.stays.over;
+        shows = shows-stay (calls ++ tail) x.shows;
+        others = λ w other. others-stay wire w calls tail own refl other;
+        keeps = keeps-stay (calls ++ tail) x.shows x.keeps;
+        rests = x.rests;
+        ticker = x.ticker;
+        made = x.made;
+        begun = x.begun ∙ ap (after_begun old.begun) (sym (armings-stay wire calls tail own ∙ no-arms o x.stays.over));
+        waits = x.waits;
+        stands = λ pending. record { wired = x.stays.wired; unread = x.stays.unread; awake = x.stays.awake; comes = out' };
+      }
+
+  stay-asleep : (sl : Sleeper) (h h' : Held) (calls : List Event) (o : Option (List Event)) (b' : List ℕ) → Stayed wire key r0 r1 old new c (slot.Asleep sl) h h' calls o → Pauses talk b c sl.client calls b' →
+      StayGoes s wire q key r0 r1 old new (slot.Asleep sl) (calls ++ arms_told o)
+  stay-asleep sl h h' calls o b' x goes =
+      let tail : List Event = arms_told o in
+      let v : List Event = calls ++ tail in
+      let own : AreCalls wire calls = x.own talk b stands in
+      let quiet : part wire (q ++ v) ≡ part wire (q ++ calls) = ap (part wire) (sym (append_assoc q calls tail)) ∙ part-quiet wire (q ++ calls) tail (x.apart wire) in
+      let out : alone s (part wire (q ++ calls)) ≡ Some (record { ending = ending.Waiting; written = sl.client.written; leftover = sl.client.rest }) =
+      alone-more s wire q calls talk b paused c through own ∙ (ap (option_and_then outcome_of) (goes.through paused s.party) ∙ goes.waiting) in
+      let out' : alone s (part wire (q ++ v)) ≡ Some (record { ending = ending.Waiting; written = sl.client.written; leftover = sl.client.rest }) = ap (alone s) quiet ∙ out in
+      let paused' : last_stop None (part wire (q ++ v)) ≡ Some x.stays.stops.dir =
+      ap (last_stop None) (quiet ∙ (part-append wire q calls ∙ ap (λ y. part wire q ++ y) (part-own wire calls own)))
+      ∙ (last_stop-append None (part wire q) calls ∙ x.stays.stops.last (last_stop None (part wire q))) in
+      let held' : held_at (registry [] (q ++ v)) key ≡ Some h' = ap (λ y. held_at y key) (shows-stay v x.shows) ∙ x.stays.held in
+      record {
+        gained = x.gained;
+        stay = stay-sleeps s wire key q calls h h' o (ap (λ y. held_at y key) same ∙ x.was) x.wired own x.asked
+            (record {
+              came = record { ending = ending.Waiting; written = sl.client.written; leftover = sl.client.rest };
+              alone_so = out';
+              waiting = refl;
+              dir = x.stays.stops.dir;
+              paused = paused';
+              held = h';
+              registered = ap (held_at (registry [] (q ++ v))) (held-key (registry [] (q ++ v)) key h' held') ∙ held';
+              own = x.wired';
+              armed = x.stays.stops.side;
+            }) x.stays.over;
+        shows = shows-stay v x.shows;
+        others = λ w other. others-stay wire w calls tail own (x.apart w) other;
+        keeps = keeps-stay v x.shows x.keeps;
+        rests = x.rests;
+        ticker = x.ticker;
+        made = x.made;
+        begun = x.begun ∙ ap (after_begun old.begun) (sym (armings-stay wire calls tail own ∙ arms-counted h h' calls o x.asked));
+        waits = x.waits;
+        stands = λ pending. record {
+          open_ = x.stays.open_;
+          comes = out';
+          talking = record {
+            talk = talk;
+            got = b';
+            stands = goes.stands;
+            through = ap (goes_through s.party (option_map dials (first_question s.party))) quiet ∙ through-more s wire q calls talk b b' paused c sl.client through own goes;
+          };
+          paused = record {
+            held = h';
+            registered = ap (held_at (registry [] (q ++ v))) x.stays.at ∙ held';
+            own = x.wired';
+            dir = x.stays.stops.dir;
+            last = paused';
+            waits_or_due = inl x.stays.stops.side;
+          };
+        };
+      }
+
+  asleep-found : (sl : Sleeper) (h h' : Held) (calls : List Event) (o : Option (List Event)) → Stayed wire key r0 r1 old new c (slot.Asleep sl) h h' calls o → (b' : List ℕ) × Pauses talk b c sl.client calls b' →
+      (v : List Event) × StayGoes s wire q key r0 r1 old new (slot.Asleep sl) v
+  asleep-found sl h h' calls o x (b', goes) = (calls ++ arms_told o, stay-asleep sl h h' calls o b' x goes)
+
+  stay-goes : (c' : Slot) → Stays wire key r0 r1 old new c c' → (v : List Event) × StayGoes s wire q key r0 r1 old new c' v
+  stay-goes (slot.Ended e) (h, h', calls, o, x) = (calls ++ event.Delete wire key true ∷ [], stay-ended e h h' calls o x)
+  stay-goes (slot.Asleep sl) (h, h', calls, o, x) = asleep-found sl h h' calls o x (x.stays.goes talk b stands)
+  stay-goes slot.Refused (h, h', calls, o, x) = absurd x.stays
+
+-- ---- a session that was visited before
+
+again-by : (s : Session) (wire key : ℕ) (q : List Event) (r0 r1 : Option (List Event)) (old new : Core) (c : Slot) → (v : List Event) × StayGoes s wire q key r0 r1 old new c v → (v : List Event) × Goes s wire q r0 r1 old new c v
+again-by s wire key q r0 r1 old new c (v, x) = (
+  v,
+  record {
+    gained = x.gained;
+    visit = again v key x.stay;
+    shows = x.shows;
+    others = x.others;
+    keeps = x.keeps;
+    rests = x.rests;
+    ticker = x.ticker;
+    made = x.made;
+    begun = x.begun;
+    waits = x.waits;
+    stands = x.stands;
+  },
+)
+
+pub goes-again : (s : Session) (wire key : ℕ) (q : List Event) (r0 r1 : Option (List Event)) (old new : Core) (c : Opening) (slot : Slot) → registry [] q ≡ map shown old.sources → Talking s wire q c →
+    Stays wire key r0 r1 old new c slot → (v : List Event) × Goes s wire q r0 r1 old new slot v
+goes-again s wire key q r0 r1 old new c slot same talking stays =
+    again-by s wire key q r0 r1 old new slot (stay-goes s wire key q r0 r1 old new c talking.talk talking.got true same talking.stands talking.through slot stays)
+
+-- ---- a first visit
+
+begun-still : (n : ℕ) → n < 2 ^ 64 → n ≡ after_begun n 0
+begun-still n fits = omega arith
+
+-- the dialling failed
+alone-failed : (s : Session) (wire : ℕ) (path : List ℕ) → first_question s.party ≡ Some (question.Unix path) →
+    alone s (event.Dial wire (question.Unix path) dial_answer.Failed ∷ []) ≡ Some (record { ending = ending.Connection; written = []; leftover = [] })
+unfolding alone
+alone-failed s wire path asks = rw (asks, bytes_eq-refl path) refl
+
+goes-undialled : (s : Session) (wire : ℕ) (q : List Event) (r0 r1 : Option (List Event)) (old : Core) (path : List ℕ) → registry [] q ≡ map shown old.sources → part wire q ≡ [] → Rests old →
+    first_question s.party ≡ Some (question.Unix path) → r1 ≡ told r0 (event.Dial wire (question.Unix path) dial_answer.Failed ∷ []) →
+    Goes s wire q r0 r1 old old (slot.Ended (record { ending = ending.Connection; written = []; leftover = []; wire = wire; moment = None })) (event.Dial wire (question.Unix path) dial_answer.Failed ∷ [])
+goes-undialled s wire q r0 r1 old path same none rests asks gained =
+    let dial : Event = event.Dial wire (question.Unix path) dial_answer.Failed in
+    let o : Outcome = record { ending = ending.Connection; written = []; leftover = [] } in
+    let own : part wire (dial ∷ []) ≡ dial ∷ [] = rw (same_number wire) refl in
+    let mine : part wire (q ++ dial ∷ []) ≡ dial ∷ [] = part-append wire q (dial ∷ []) ∙ (ap (λ x. x ++ part wire (dial ∷ [])) none ∙ own) in
+    let out : alone s (part wire (q ++ dial ∷ [])) ≡ Some o = ap (alone s) mine ∙ alone-failed s wire path asks in
+    let still : registry [] (q ++ dial ∷ []) ≡ registry [] q = registry-append [] q (dial ∷ []) in
+    record {
+      gained = gained;
+      visit = undialled (dial ∷ []) none (refl, tt {0}) (o, out, awake-not_waiting ending.Connection refl);
+      shows = still ∙ same;
+      others = λ w other. rw (other_number wire w other) refl;
+      keeps = λ k x at other. ap (λ z. held_at z k) still ∙ at;
+      rests = rests;
+      ticker = refl;
+      made = refl;
+      begun = begun-still old.begun rests.fits;
+      waits = refl;
+      stands = λ pending. record { wired = refl; unread = refl; awake = refl; comes = out };
+    }
+
+-- the dialling opened a wire
+through-opened : (s : Session) (wire : ℕ) (path : List ℕ) (passes : Bool) (talk : List (List ℕ) → Said) (c : Opening) → first_question s.party ≡ Some (question.Unix path) → conversation s.party passes ≡ Some talk → c.written ≡ [] →
+    goes_through s.party (option_map dials (first_question s.party)) (event.Dial wire (question.Unix path) (dial_answer.Opened passes) ∷ []) ≡ Some (stands_at talk [] c false)
+through-opened s wire path passes talk c asks begun unwritten = rw (asks, bytes_eq-refl path, begun, unwritten) refl
+
+new_key : (held : List Held) (key k : ℕ) (x : Held) → held_at held key ≡ None → held_at held k ≡ Some x → key ≢ k
+new_key held key k x free at = λ e. let f : None ≡ Some x = sym free ∙ (ap (held_at held) e ∙ at) in cc
+
+first-by : (s : Session) (wire key : ℕ) (q : List Event) (r0 r1 : Option (List Event)) (old mid new : Core) (c : Slot) (path : List ℕ) (passes : Bool) → part wire q ≡ [] → held_at (registry [] q) key ≡ None → mid ≡ inserted old key wire →
+    (v : List Event) × StayGoes s wire (q ++ event.Dial wire (question.Unix path) (dial_answer.Opened passes) ∷ event.Add wire key true ∷ []) key
+    (told (told r0 (event.Dial wire (question.Unix path) (dial_answer.Opened passes) ∷ [])) (event.Add wire key true ∷ [])) r1 mid new c v → (v : List Event) × Goes s wire q r0 r1 old new c v
+first-by s wire key q r0 r1 old mid new c path passes none free is (v, x) =
+    let dial : Event = event.Dial wire (question.Unix path) (dial_answer.Opened passes) in
+    let add : Event = event.Add wire key true in
+    let pre : List Event = dial ∷ add ∷ [] in
+    let held : Held = record { key = key; wire = wire; read = Idle; write = Idle } in
+    let assoc : (q ++ pre) ++ v ≡ q ++ (pre ++ v) = append_assoc q pre v in
+    let mid' : registry [] (q ++ pre) ≡ with_held (registry [] q) held = registry-append [] q pre in
+    let quiet : armings_in (pre ++ v) ≡ armings_in v = armings_in-append pre v ∙ plus_none 0 (armings_in v) refl in
+    let still : waits_in (pre ++ v) ≡ waits_in v = waits_in-append pre v ∙ plus_none 0 (waits_in v) refl in (
+      pre ++ v,
+      record {
+        gained = x.gained ∙ (ap (λ r. told r v) (told-told r0 (dial ∷ []) (add ∷ [])) ∙ told-told r0 pre v);
+        visit = first (dial ∷ []) v key none (refl, tt {0}) free x.stay;
+        shows = ap (registry []) (sym assoc) ∙ x.shows;
+        others = λ w other. part-append w pre v ∙ (ap (λ y. y ++ part w v) (other_dial wire w key path passes other) ∙ x.others w other);
+        keeps = λ k y at other. ap (λ z. held_at (registry [] z) k) (sym assoc)
+            ∙ x.keeps k y (ap (λ z. held_at z k) mid' ∙ with-keeps (registry [] q) held k y at (new_key (registry [] q) key k y free at)) other;
+        rests = x.rests;
+        ticker = x.ticker ∙ ap (λ z. z.ticker) is;
+        made = x.made ∙ ap (λ z. z.made) is;
+        begun = x.begun ∙ (ap (λ z. after_begun z.begun (armings_in v)) is ∙ ap (after_begun old.begun) (sym quiet));
+        waits = still ∙ x.waits;
+        stands = λ pending. let S : List Event → Type 0 = λ y. Stands s wire pending y c in subst S assoc (x.stands pending);
+      },
+    )
+
+goes-opened : (s : Session) (wire : ℕ) (q : List Event) (r0 r1 : Option (List Event)) (old new : Core) (c : Slot) (path : List ℕ) (passes : Bool) (talk : List (List ℕ) → Said) (client : Opening) (key : ℕ) (mid : Core) →
+    registry [] q ≡ map shown old.sources → part wire q ≡ [] → first_question s.party ≡ Some (question.Unix path) →
+    Registered s wire passes (told r0 (event.Dial wire (question.Unix path) (dial_answer.Opened passes) ∷ [])) r1 old new c talk client key mid → (v : List Event) × Goes s wire q r0 r1 old new c v
+goes-opened s wire q r0 r1 old new c path passes talk client key mid same none asks r =
+    let dial : Event = event.Dial wire (question.Unix path) (dial_answer.Opened passes) in
+    let add : Event = event.Add wire key true in
+    let pre : List Event = dial ∷ add ∷ [] in
+    let held : Held = record { key = key; wire = wire; read = Idle; write = Idle } in
+    let own : part wire pre ≡ dial ∷ [] = rw (same_number wire) refl in
+    let mine : part wire (q ++ pre) ≡ dial ∷ [] = part-append wire q pre ∙ (ap (λ x. x ++ part wire pre) none ∙ own) in
+    let shows' : registry [] (q ++ pre) ≡ map shown mid.sources = registry-append [] q pre ∙ (ap (λ x. with_held x held) same ∙ r.shows) in
+    let free : held_at (registry [] q) key ≡ None = ap (λ x. held_at x key) same ∙ r.free in
+    first-by s wire key q r0 r1 old mid new c path passes none free r.core
+    (stay-goes s wire key (q ++ pre) (told (told r0 (dial ∷ [])) (add ∷ [])) r1 mid new client talk [] false shows' r.stands
+    (ap (goes_through s.party (option_map dials (first_question s.party))) mine ∙ through-opened s wire path passes talk client asks r.begins r.unwritten) c r.stays)
+
+pub goes-first : (s : Session) (wire : ℕ) (q : List Event) (r0 r1 : Option (List Event)) (old new : Core) (slot : Slot) → registry [] q ≡ map shown old.sources → part wire q ≡ [] → Rests old →
+    FirstVisits s wire r0 r1 old new slot → (v : List Event) × Goes s wire q r0 r1 old new slot v
+goes-first s wire q r0 r1 old new c same none rests (visited.undialled path e asks gained still is says) =
+    let dial : Event = event.Dial wire (question.Unix path) dial_answer.Failed in
+    let went : Goes s wire q r0 r1 old old (slot.Ended (record { ending = ending.Connection; written = []; leftover = []; wire = wire; moment = None })) (dial ∷ []) = goes-undialled s wire q r0 r1 old path same none rests asks gained in
+    let Q : Slot → Type 0 = λ y. Goes s wire q r0 r1 old old y (dial ∷ []) in
+    let R : Core → Type 0 = λ x. Goes s wire q r0 r1 old x c (dial ∷ []) in
+    (dial ∷ [], subst R (sym still) (subst Q (sym (is ∙ ap (λ y. slot.Ended y) says)) went))
+goes-first s wire q r0 r1 old new c same none rests (visited.dialled path passes asks (talk, client, key, mid, r)) =
+    goes-opened s wire q r0 r1 old new c path passes talk client key mid same none asks r

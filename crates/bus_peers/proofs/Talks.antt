@@ -1,0 +1,411 @@
+-- How the events of one poll go through for the session alone, from any history at which its conversation stands.
+use Rattle.std.proofs.Common.{◌≡◌, ◌≢◌, ℕ, ◌+◌, Bool, true, false, List, [], ◌∷◌, ◌++◌, Option, Some, length, refl, sym, ◌∙◌, ap, subst, inl, inr, arith, nat_le, ◌&&◌}
+use Rattle.std.specs.List.{flat_map}
+use Rattle.std.specs.Option.{option_and_then}
+use Rattle.std.specs.Str.{bytes_eq}
+use Rattle.std.proofs.lemmas.List.{append_assoc, append-nil, length-append}
+use Rattle.std.proofs.lemmas.List.Elements.{filter-append}
+use Rattle.std.proofs.lemmas.List.Sums.{sum_by-append}
+use Rattle.std.proofs.lemmas.Bool.Decides.{nat_tests}
+use Rattle.std.proofs.lemmas.Grind.{common_steps}
+use Rattle.react_core.specs.Told.{told}
+use Rattle.react_core.specs.declared.outside.Event.{Event}
+use Rattle.react_core.specs.declared.outside.Event.TheVariants as event
+use Rattle.react_core.specs.declared.outside.RecvAnswer.{RecvAnswer}
+use Rattle.react_core.specs.declared.outside.RecvAnswer.TheVariants as recv_answer
+use Rattle.react_core.specs.declared.outside.SendAnswer.{SendAnswer}
+use Rattle.react_core.specs.declared.outside.SendAnswer.TheVariants as send_answer
+use Rattle.react_core.specs.declared.reactor.Dir.{Dir}
+use Rattle.react_core.specs.declared.reactor.Dir.TheVariants.{Read, Write}
+use Rattle.bus_opening.specs.Talk.{Said, Ask, ask, left}
+use Rattle.bus_opening.specs.Openings.{Opening, StandsIn, written_of, rest_of}
+use Rattle.bus_opening.specs.Polling.{IsAsked, AreAsked, Moved, AllMoved, bytes_got, bytes_taken, Asks, Concludes, Polls, Leaves}
+use Rattle.bus_opening.specs.declared.verdict.Verdict.{Verdict}
+use Rattle.bus_opening.specs.declared.verdict.Verdict.TheVariants as verdict
+use Rattle.bus_opening.specs.declared.verdict.Step.{Step}
+use Rattle.bus_opening.specs.declared.verdict.Step.TheVariants as step
+use Rattle.bus_script.specs.declared.ended.Ending.{Ending}
+use Rattle.bus_script.specs.declared.ended.Ending.TheVariants as ending
+use Rattle.bus_peers.specs.declared.session.Party.{Party}
+use Rattle.bus_peers.specs.Parts.{is_of, part}
+use Rattle.bus_peers.specs.Alone.{Progress, converses, after, after_recv, after_send, concluded, goes_through, outcome_of}
+use Rattle.bus_peers.specs.Registry.{Held, held_after, registry, noted}
+use Rattle.bus_peers.specs.Asking.{Asking, asking_next, asks, begins, after_stop, stop_of, last_stop}
+use Rattle.bus_peers.specs.Settled.{IsCall, AreCalls, waits_in, armings_in}
+use Rattle.bus_peers.specs.Visited.{stands_at, EndsAs, GoesOn, ending_of}
+
+-- ---- one list of events after another
+
+pub bytes_eq-refl : (xs : List ℕ) → bytes_eq xs xs ≡ true
+bytes_eq-refl [] = refl
+bytes_eq-refl (x ∷ xs) = grind (arith, common_steps, bytes_eq-refl xs)
+
+pub part-append : (w : ℕ) (a b : List Event) → part w (a ++ b) ≡ part w a ++ part w b
+part-append w a b = filter-append (is_of w) a b
+
+pub registry-append : (held : List Held) (a b : List Event) → registry held (a ++ b) ≡ registry (registry held a) b
+registry-append held [] b = refl
+registry-append held (e ∷ a) b = registry-append (held_after held e) a b
+
+pub asks-append : (t : Option Asking) (a b : List Event) → asks t (a ++ b) ≡ asks (asks t a) b
+asks-append t [] b = refl
+asks-append t (e ∷ a) b = asks-append (asking_next t e) a b
+
+pub last_stop-append : (dir : Option Dir) (a b : List Event) → last_stop dir (a ++ b) ≡ last_stop (last_stop dir a) b
+last_stop-append dir [] b = refl
+last_stop-append dir (e ∷ a) b = last_stop-append (stop_of e) a b
+
+pub goes-append : (p : Party) (t : Option Progress) (a b : List Event) → goes_through p t (a ++ b) ≡ goes_through p (goes_through p t a) b
+goes-append p t [] b = refl
+goes-append p t (e ∷ a) b = goes-append p (option_and_then (λ reached. after p reached e) t) a b
+
+pub waits_in-append : (a b : List Event) → waits_in (a ++ b) ≡ waits_in a + waits_in b
+waits_in-append a b = sum_by-append _ a b
+
+pub armings_in-append : (a b : List Event) → armings_in (a ++ b) ≡ armings_in a + armings_in b
+armings_in-append a b = sum_by-append _ a b
+
+pub AreCalls-append : (wire : ℕ) (a b : List Event) → AreCalls wire a → AreCalls wire b → AreCalls wire (a ++ b)
+AreCalls-append wire [] b h k = k
+AreCalls-append wire (e ∷ a) b (h, hs) k = (h, AreCalls-append wire a b hs k)
+
+-- ---- the calls of one wire
+
+call-is_of : (wire : ℕ) (e : Event) → IsCall wire e → is_of wire e ≡ true
+call-is_of wire (event.Recv on size answer) same = grind (arith, nat_tests, same)
+call-is_of wire (event.Send on offered answer) same = grind (arith, nat_tests, same)
+call-is_of wire e h = absurd h
+
+call-other : (wire w : ℕ) (e : Event) → IsCall wire e → w ≢ wire → is_of w e ≡ false
+call-other wire w (event.Recv on size answer) same other = grind (arith, nat_tests, same, other)
+call-other wire w (event.Send on offered answer) same other = grind (arith, nat_tests, same, other)
+call-other wire w e h other = absurd h
+
+pub part-own : (wire : ℕ) (calls : List Event) → AreCalls wire calls → part wire calls ≡ calls
+part-own wire [] h = refl
+part-own wire (e ∷ calls) (h, hs) = rw (call-is_of wire e h, part-own wire calls hs) refl
+
+pub part-other : (wire w : ℕ) (calls : List Event) → AreCalls wire calls → w ≢ wire → part w calls ≡ []
+part-other wire w [] h other = refl
+part-other wire w (e ∷ calls) (h, hs) other = rw (call-other wire w e h other, part-other wire w calls hs other) refl
+
+pub calls-no-waits : (wire : ℕ) (calls : List Event) → AreCalls wire calls → waits_in calls ≡ 0
+calls-no-waits wire [] h = refl
+calls-no-waits wire (event.Recv on size answer ∷ calls) (h, hs) = calls-no-waits wire calls hs
+calls-no-waits wire (event.Send on offered answer ∷ calls) (h, hs) = calls-no-waits wire calls hs
+calls-no-waits wire (e ∷ calls) (h, hs) = absurd h
+
+pub calls-no-armings : (wire : ℕ) (calls : List Event) → AreCalls wire calls → armings_in calls ≡ 0
+calls-no-armings wire [] h = refl
+calls-no-armings wire (event.Recv on size answer ∷ calls) (h, hs) = calls-no-armings wire calls hs
+calls-no-armings wire (event.Send on offered answer ∷ calls) (h, hs) = calls-no-armings wire calls hs
+calls-no-armings wire (e ∷ calls) (h, hs) = absurd h
+
+-- ---- the events that moved bytes
+
+asked-call : (a : Ask) (wire : ℕ) (e : Event) → IsAsked a wire e → IsCall wire e
+asked-call a wire (event.Recv on size answer) (asked, same, sized) = same
+asked-call a wire (event.Send on offered answer) (asked, same) = same
+asked-call a wire e h = absurd h
+
+asked-calls : (talk : List (List ℕ) → Said) (wire : ℕ) (b : List ℕ) (w : ℕ) (events : List Event) → AreAsked talk wire b w events → AreCalls wire events
+asked-calls talk wire b w [] h = tt {0}
+asked-calls talk wire b w (e ∷ events) (h, hs) = (asked-call _ wire e h, asked-calls talk wire (b ++ bytes_got e) (w + length (bytes_taken e)) events hs)
+
+moved-asks : (h : Held) (events : List Event) → AllMoved events → asks (Some (begins h)) events ≡ Some (begins h)
+moved-asks h [] m = refl
+moved-asks h (event.Recv on size (recv_answer.Got bytes) ∷ events) (m, ms) = moved-asks h events ms
+moved-asks h (event.Send on offered (send_answer.Took n) ∷ events) (m, ms) = moved-asks h events ms
+moved-asks h (e ∷ events) (m, ms) = absurd m
+
+moved-shows : (held : List Held) (events : List Event) → AllMoved events → registry held events ≡ held
+moved-shows held [] m = refl
+moved-shows held (event.Recv on size (recv_answer.Got bytes) ∷ events) (m, ms) = moved-shows held events ms
+moved-shows held (event.Send on offered (send_answer.Took n) ∷ events) (m, ms) = moved-shows held events ms
+moved-shows held (e ∷ events) (m, ms) = absurd m
+
+moved-waits : (events : List Event) → AllMoved events → waits_in events ≡ 0
+moved-waits [] m = refl
+moved-waits (event.Recv on size (recv_answer.Got bytes) ∷ events) (m, ms) = moved-waits events ms
+moved-waits (event.Send on offered (send_answer.Took n) ∷ events) (m, ms) = moved-waits events ms
+moved-waits (e ∷ events) (m, ms) = absurd m
+
+-- a conversation at which these bytes came and those were taken
+abbrev at : (List (List ℕ) → Said) → List ℕ → List ℕ → Bool → Progress
+at talk b w paused = converses talk (record { got = b; written = w; paused = paused })
+
+-- an event that moves bytes ends a pause
+abbrev paused-after : Bool → List Event → Bool
+paused-after paused [] = paused
+paused-after paused (e ∷ events) = paused-after false events
+
+moved-one : (p : Party) (talk : List (List ℕ) → Said) (b w : List ℕ) (paused : Bool) (wire : ℕ) (e : Event) → Moved e → IsAsked (ask talk b (length w)) wire e →
+    after p (at talk b w paused) e ≡ Some (at talk (b ++ bytes_got e) (w ++ bytes_taken e) false)
+moved-one p talk b w paused wire (event.Recv on size (recv_answer.Got bytes)) (low, high) (asked, same, sized) =
+    let fits : (nat_le 1 (length bytes) && nat_le (length bytes) 1024) ≡ true = grind (arith, nat_tests) in
+    rw (asked, sized, fits, append-nil w) refl
+moved-one p talk b w paused wire (event.Send on offered (send_answer.Took n)) (low, high) (asked, same) =
+    let fits : (nat_le 1 n && nat_le n (length offered)) ≡ true = grind (arith, nat_tests) in
+    rw (asked, bytes_eq-refl offered, fits, append-nil b) refl
+moved-one p talk b w paused wire e m a = absurd m
+
+moved-on : (p : Party) (talk : List (List ℕ) → Said) (b w : List ℕ) (paused : Bool) (wire : ℕ) (events : List Event) → AllMoved events → AreAsked talk wire b (length w) events →
+    goes_through p (Some (at talk b w paused)) events ≡ Some (at talk (b ++ flat_map bytes_got events) (w ++ flat_map bytes_taken events) (paused-after paused events))
+moved-on p talk b w paused wire [] m a = rw (append-nil b, append-nil w) refl
+moved-on p talk b w paused wire (e ∷ events) (m, ms) (a, more) =
+    let longer : length w + length (bytes_taken e) ≡ length (w ++ bytes_taken e) = sym (length-append w (bytes_taken e)) in
+    let onward : AreAsked talk wire (b ++ bytes_got e) (length (w ++ bytes_taken e)) events = subst (λ n. AreAsked talk wire (b ++ bytes_got e) n events) longer more in
+    ap (λ reached. goes_through p reached events) (moved-one p talk b w paused wire e m a)
+    ∙ (moved-on p talk (b ++ bytes_got e) (w ++ bytes_taken e) false wire events ms onward
+    ∙ rw (append_assoc b (bytes_got e) (flat_map bytes_got events), append_assoc w (bytes_taken e) (flat_map bytes_taken events)) refl)
+
+-- ---- the last event
+
+asked-first : (talk : List (List ℕ) → Said) (wire : ℕ) (b : List ℕ) (w : ℕ) (es fs : List Event) → AreAsked talk wire b w (es ++ fs) → AreAsked talk wire b w es
+asked-first talk wire b w [] fs h = tt {0}
+asked-first talk wire b w (e ∷ es) fs (h, hs) = (h, asked-first talk wire (b ++ bytes_got e) (w + length (bytes_taken e)) es fs hs)
+
+asked-last : (talk : List (List ℕ) → Said) (wire : ℕ) (b w : List ℕ) (es fs : List Event) → AreAsked talk wire b (length w) (es ++ fs) →
+    AreAsked talk wire (b ++ flat_map bytes_got es) (length (w ++ flat_map bytes_taken es)) fs
+asked-last talk wire b w [] fs h = rw (append-nil b, append-nil w) h
+asked-last talk wire b w (e ∷ es) fs (h, hs) =
+    let longer : length w + length (bytes_taken e) ≡ length (w ++ bytes_taken e) = sym (length-append w (bytes_taken e)) in
+    let onward : AreAsked talk wire (b ++ bytes_got e) (length (w ++ bytes_taken e)) (es ++ fs) = subst (λ n. AreAsked talk wire (b ++ bytes_got e) n (es ++ fs)) longer hs in
+    let later : AreAsked talk wire (b ++ bytes_got e ++ flat_map bytes_got es) (length (w ++ bytes_taken e ++ flat_map bytes_taken es)) fs = asked-last talk wire (b ++ bytes_got e) (w ++ bytes_taken e) es fs onward in
+    rw (← append_assoc b (bytes_got e) (flat_map bytes_got es), ← append_assoc w (bytes_taken e) (flat_map bytes_taken es)) later
+
+flat-append : (f : Event → List ℕ) (es fs : List Event) → flat_map f (es ++ fs) ≡ flat_map f es ++ flat_map f fs
+flat-append f [] fs = refl
+flat-append f (e ∷ es) fs = ap (λ x. f e ++ x) (flat-append f es fs) ∙ sym (append_assoc (f e) (flat_map f es) (flat_map f fs))
+
+-- it moves no bytes
+quiet-got : (asks : Ask → Type 0) (wire : ℕ) (s : Step) (final : List Event) → Concludes asks wire s final → flat_map bytes_got final ≡ []
+quiet-got asks wire (step.Done (verdict.Authenticated settled)) final (f, h) = rw f refl
+quiet-got asks wire (step.Done verdict.Handshake) final (inl (f, h)) = rw f refl
+quiet-got asks wire (step.Done verdict.Handshake) final (inr f) = rw f refl
+quiet-got asks wire (step.Done verdict.Io) final (inl f) = rw f refl
+quiet-got asks wire (step.Done verdict.Io) final (inr (offered, f)) = rw f refl
+quiet-got asks wire (step.Done verdict.LineTooLong) final (f, h) = rw f refl
+quiet-got asks wire (step.Done verdict.TooManyCommands) final (f, h) = rw f refl
+quiet-got asks wire step.WantRead final f = rw f refl
+quiet-got asks wire step.WantWrite final (offered, f) = rw f refl
+quiet-got asks wire step.OutOfMemory final f = rw f refl
+
+quiet-taken : (asks : Ask → Type 0) (wire : ℕ) (s : Step) (final : List Event) → Concludes asks wire s final → flat_map bytes_taken final ≡ []
+quiet-taken asks wire (step.Done (verdict.Authenticated settled)) final (f, h) = rw f refl
+quiet-taken asks wire (step.Done verdict.Handshake) final (inl (f, h)) = rw f refl
+quiet-taken asks wire (step.Done verdict.Handshake) final (inr f) = rw f refl
+quiet-taken asks wire (step.Done verdict.Io) final (inl f) = rw f refl
+quiet-taken asks wire (step.Done verdict.Io) final (inr (offered, f)) = rw f refl
+quiet-taken asks wire (step.Done verdict.LineTooLong) final (f, h) = rw f refl
+quiet-taken asks wire (step.Done verdict.TooManyCommands) final (f, h) = rw f refl
+quiet-taken asks wire step.WantRead final f = rw f refl
+quiet-taken asks wire step.WantWrite final (offered, f) = rw f refl
+quiet-taken asks wire step.OutOfMemory final f = rw f refl
+
+final-waits : (asks : Ask → Type 0) (wire : ℕ) (s : Step) (final : List Event) → Concludes asks wire s final → waits_in final ≡ 0
+final-waits asks wire (step.Done (verdict.Authenticated settled)) final (f, h) = rw f refl
+final-waits asks wire (step.Done verdict.Handshake) final (inl (f, h)) = rw f refl
+final-waits asks wire (step.Done verdict.Handshake) final (inr f) = rw f refl
+final-waits asks wire (step.Done verdict.Io) final (inl f) = rw f refl
+final-waits asks wire (step.Done verdict.Io) final (inr (offered, f)) = rw f refl
+final-waits asks wire (step.Done verdict.LineTooLong) final (f, h) = rw f refl
+final-waits asks wire (step.Done verdict.TooManyCommands) final (f, h) = rw f refl
+final-waits asks wire step.WantRead final f = rw f refl
+final-waits asks wire step.WantWrite final (offered, f) = rw f refl
+final-waits asks wire step.OutOfMemory final f = rw f refl
+
+concludes-map : (asks asks' : Ask → Type 0) (wire : ℕ) (s : Step) (final : List Event) → ((a : Ask) → asks a → asks' a) → Concludes asks wire s final → Concludes asks' wire s final
+concludes-map asks asks' wire (step.Done (verdict.Authenticated settled)) final g (f, h) = (f, g _ h)
+concludes-map asks asks' wire (step.Done verdict.Handshake) final g (inl (f, h)) = inl (f, g _ h)
+concludes-map asks asks' wire (step.Done verdict.Handshake) final g (inr f) = inr f
+concludes-map asks asks' wire (step.Done verdict.Io) final g h = h
+concludes-map asks asks' wire (step.Done verdict.LineTooLong) final g (f, h) = (f, g _ h)
+concludes-map asks asks' wire (step.Done verdict.TooManyCommands) final g (f, h) = (f, g _ h)
+concludes-map asks asks' wire step.WantRead final g f = f
+concludes-map asks asks' wire step.WantWrite final g f = f
+concludes-map asks asks' wire step.OutOfMemory final g f = f
+
+-- at an end it is no NotReady
+final-asks : (asked : Ask → Type 0) (wire : ℕ) (v : Verdict) (h : Held) (final : List Event) → Concludes asked wire (step.Done v) final → asks (Some (begins h)) final ≡ Some (begins h)
+final-asks asked wire (verdict.Authenticated settled) h final (f, k) = rw f refl
+final-asks asked wire verdict.Handshake h final (inl (f, k)) = rw f refl
+final-asks asked wire verdict.Handshake h final (inr f) = rw f refl
+final-asks asked wire verdict.Io h final (inl f) = rw f refl
+final-asks asked wire verdict.Io h final (inr (offered, f)) = rw f refl
+final-asks asked wire verdict.LineTooLong h final (f, k) = rw f refl
+final-asks asked wire verdict.TooManyCommands h final (f, k) = rw f refl
+
+final-shows : (asked : Ask → Type 0) (wire : ℕ) (v : Verdict) (held : List Held) (final : List Event) → Concludes asked wire (step.Done v) final → registry held final ≡ held
+final-shows asked wire (verdict.Authenticated settled) held final (f, k) = rw f refl
+final-shows asked wire verdict.Handshake held final (inl (f, k)) = rw f refl
+final-shows asked wire verdict.Handshake held final (inr f) = rw f refl
+final-shows asked wire verdict.Io held final (inl f) = rw f refl
+final-shows asked wire verdict.Io held final (inr (offered, f)) = rw f refl
+final-shows asked wire verdict.LineTooLong held final (f, k) = rw f refl
+final-shows asked wire verdict.TooManyCommands held final (f, k) = rw f refl
+
+-- a conversation at which these bytes came and those were taken ends so
+abbrev EndsAt : (List (List ℕ) → Said) → List ℕ → List ℕ → Bool → Ending → Option Progress → Type 0
+EndsAt talk b w paused e reached = option_and_then outcome_of reached ≡ Some (concluded talk (record { got = b; written = w; paused = paused }) e)
+
+got-last : (p : Party) (talk : List (List ℕ) → Said) (b w : List ℕ) (paused : Bool) (wire : ℕ) (answer : RecvAnswer) → AreAsked talk wire b (length w) (event.Recv wire 1024 answer ∷ []) →
+    goes_through p (Some (at talk b w paused)) (event.Recv wire 1024 answer ∷ []) ≡ after_recv talk (record { got = b; written = w; paused = paused }) answer
+got-last p talk b w paused wire answer ((asked, same, sized), more) = rw (asked) refl
+
+sent-last : (p : Party) (talk : List (List ℕ) → Said) (b w : List ℕ) (paused : Bool) (wire : ℕ) (offered : List ℕ) (answer : SendAnswer) → AreAsked talk wire b (length w) (event.Send wire offered answer ∷ []) →
+    goes_through p (Some (at talk b w paused)) (event.Send wire offered answer ∷ []) ≡ after_send talk (record { got = b; written = w; paused = paused }) offered answer
+sent-last p talk b w paused wire offered answer ((asked, same), more) = rw (asked, bytes_eq-refl offered) refl
+
+final-ends : (p : Party) (talk : List (List ℕ) → Said) (b w : List ℕ) (paused : Bool) (wire : ℕ) (v : Verdict) (final : List Event) →
+    AreAsked talk wire b (length w) final → Concludes (λ a. ask talk b (length w) ≡ a) wire (step.Done v) final →
+    EndsAt talk b w paused (ending_of v) (goes_through p (Some (at talk b w paused)) final)
+final-ends p talk b w paused wire (verdict.Authenticated settled) final a (f, asked) = rw (f, asked) refl
+final-ends p talk b w paused wire verdict.Handshake final a (inl (f, asked)) = rw (f, asked) refl
+final-ends p talk b w paused wire verdict.Handshake final a (inr f) = let a' = rw f at a in rw f (ap (option_and_then outcome_of) (got-last p talk b w paused wire _ a'))
+final-ends p talk b w paused wire verdict.Io final a (inl f) = let a' = rw f at a in rw f (ap (option_and_then outcome_of) (got-last p talk b w paused wire _ a'))
+final-ends p talk b w paused wire verdict.Io final a (inr (offered, f)) = let a' = rw f at a in rw f (ap (option_and_then outcome_of) (sent-last p talk b w paused wire offered _ a'))
+final-ends p talk b w paused wire verdict.LineTooLong final a (f, asked) = rw (f, asked) refl
+final-ends p talk b w paused wire verdict.TooManyCommands final a (f, asked) = rw (f, asked) refl
+
+-- the answer of a poll that stopped at this direction
+abbrev pub stop_step : Dir → Step
+stop_step Read = step.WantRead
+stop_step Write = step.WantWrite
+
+-- at a stop it is the NotReady
+stop-asks : (asked : Ask → Type 0) (wire : ℕ) (dir : Dir) (h : Held) (final : List Event) → Concludes asked wire (stop_step dir) final → asks (Some (begins h)) final ≡ Some (after_stop dir (begins h))
+stop-asks asked wire Read h final f = rw f refl
+stop-asks asked wire Write h final (offered, f) = rw f refl
+
+stop-shows : (asked : Ask → Type 0) (wire : ℕ) (dir : Dir) (held : List Held) (final : List Event) → Concludes asked wire (stop_step dir) final → registry held final ≡ noted wire dir held
+stop-shows asked wire Read held final f = rw f refl
+stop-shows asked wire Write held final (offered, f) = rw f refl
+
+stop-last : (asked : Ask → Type 0) (wire : ℕ) (dir : Dir) (earlier : Option Dir) (final : List Event) → Concludes asked wire (stop_step dir) final → last_stop earlier final ≡ Some dir
+stop-last asked wire Read earlier final f = rw f refl
+stop-last asked wire Write earlier final (offered, f) = rw f refl
+
+stop-through : (p : Party) (talk : List (List ℕ) → Said) (b w : List ℕ) (paused : Bool) (wire : ℕ) (dir : Dir) (final : List Event) →
+    AreAsked talk wire b (length w) final → Concludes (λ a. ask talk b (length w) ≡ a) wire (stop_step dir) final → goes_through p (Some (at talk b w paused)) final ≡ Some (at talk b w true)
+stop-through p talk b w paused wire Read final a f = let a' = rw f at a in rw f (got-last p talk b w paused wire _ a')
+stop-through p talk b w paused wire Write final a (offered, f) = let a' = rw f at a in rw f (sent-last p talk b w paused wire offered _ a')
+
+stop-waiting : (talk : List (List ℕ) → Said) (b w : List ℕ) (wire : ℕ) (dir : Dir) (final : List Event) →
+    AreAsked talk wire b (length w) final → Concludes (λ a. ask talk b (length w) ≡ a) wire (stop_step dir) final →
+    outcome_of (at talk b w true) ≡ Some (record { ending = ending.Waiting; written = w; leftover = left talk b (length w) })
+stop-waiting talk b w wire Read final a f = let a' = rw f at a in rw (a'.0.0) refl
+stop-waiting talk b w wire Write final a (offered, f) = let a' = rw f at a in rw (a'.0.0) refl
+
+-- ---- a poll
+
+-- over each history at which the opening stands, these are calls of the wire
+abbrev pub CallsOf : ℕ → Opening → List Event → Type 0
+CallsOf wire c calls = (talk : List (List ℕ) → Said) (b : List ℕ) → StandsIn talk b c → AreCalls wire calls
+
+-- the events of a poll that came to an end
+pub record EndedBy (wire : ℕ) (before after' : Option (List Event)) (old new : Opening) (v : Verdict) (calls : List Event) : Type 0 where
+  pub gained : after' ≡ told before calls
+  pub own : CallsOf wire old calls
+  pub waits : waits_in calls ≡ 0
+  pub asked : (h : Held) → asks (Some (begins h)) calls ≡ Some (begins h)
+  pub shows : (held : List Held) → registry held calls ≡ held
+  pub ends : EndsAs old (ending_of v) new.written new.rest calls
+
+-- the events of a poll that a NotReady of this direction stopped
+pub record StoppedBy (wire : ℕ) (dir : Dir) (before after' : Option (List Event)) (old new : Opening) (calls : List Event) : Type 0 where
+  pub gained : after' ≡ told before calls
+  pub own : CallsOf wire old calls
+  pub waits : waits_in calls ≡ 0
+  pub asked : (h : Held) → asks (Some (begins h)) calls ≡ Some (after_stop dir (begins h))
+  pub shows : (held : List Held) → registry held calls ≡ noted wire dir held
+  pub last : (earlier : Option Dir) → last_stop earlier calls ≡ Some dir
+  pub goes : GoesOn old new calls
+
+-- the events of any poll, over a history at which the opening stood
+pub record Polled (wire : ℕ) (old new : Opening) (events final : List Event) (answer : Step) (talk : List (List ℕ) → Said) (b b' w' : List ℕ) : Type 0 where
+  pub stands : StandsIn talk b' new
+  pub written : new.written ≡ w'
+  pub last : AreAsked talk wire b' (length w') final
+  pub concludes : Concludes (λ a. ask talk b' (length w') ≡ a) wire answer final
+  pub through : (paused : Bool) (p : Party) → goes_through p (Some (stands_at talk b old paused)) (events ++ final) ≡ goes_through p (Some (at talk b' w' (paused-after paused events))) final
+
+module _ (wire : ℕ) (before after' : Option (List Event)) (old new : Opening) where
+  -- the same questions, where a history is known at which they are asked
+  polled : (answer : Step) (polls : Polls Opening StandsIn written_of wire old new before after' answer) (talk : List (List ℕ) → Said) (b : List ℕ) → StandsIn talk b old →
+      Polled wire old new polls.events polls.final answer talk b (b ++ flat_map bytes_got polls.events) (old.written ++ flat_map bytes_taken polls.events)
+  polled answer polls talk b stands =
+      let calls : List Event = polls.events ++ polls.final in
+      let got : List ℕ = flat_map bytes_got polls.events in
+      let taken : List ℕ = flat_map bytes_taken polls.events in
+      let asked : AreAsked talk wire b (length old.written) calls = polls.moves.asked talk b stands in
+      let first : AreAsked talk wire b (length old.written) polls.events = asked-first talk wire b (length old.written) polls.events polls.final asked in
+      let got-so : flat_map bytes_got calls ≡ got = flat-append bytes_got polls.events polls.final ∙ (ap (λ x. got ++ x) (quiet-got (Asks Opening StandsIn written_of new) wire answer polls.final polls.concludes) ∙ append-nil got) in
+      let taken-so : flat_map bytes_taken calls ≡ taken = flat-append bytes_taken polls.events polls.final ∙ (ap (λ x. taken ++ x) (quiet-taken (Asks Opening StandsIn written_of new) wire answer polls.final polls.concludes) ∙ append-nil taken) in
+      let writes : new.written ≡ old.written ++ taken = polls.moves.taken ∙ ap (λ x. old.written ++ x) taken-so in
+      let stands' : StandsIn talk (b ++ got) new = subst (λ x. StandsIn talk (b ++ x) new) got-so (polls.moves.stays talk b stands) in
+      record {
+        stands = stands';
+        written = writes;
+        last = asked-last talk wire b old.written polls.events polls.final asked;
+        concludes = concludes-map (Asks Opening StandsIn written_of new) (λ a. ask talk (b ++ got) (length (old.written ++ taken)) ≡ a) wire answer polls.final (λ a h. subst (λ x. ask talk (b ++ got) (length x) ≡ a) writes (h talk (b ++ got) stands')) polls.concludes;
+        through = λ paused p. goes-append p (Some (stands_at talk b old paused)) polls.events polls.final
+            ∙ ap (λ t. goes_through p t polls.final) (moved-on p talk b old.written paused wire polls.events polls.moved first);
+      }
+
+  poll-calls : (answer : Step) (polls : Polls Opening StandsIn written_of wire old new before after' answer) → CallsOf wire old (polls.events ++ polls.final)
+  poll-calls answer polls talk b stands = asked-calls talk wire b (length old.written) (polls.events ++ polls.final) (polls.moves.asked talk b stands)
+
+  pub poll-waits : (answer : Step) (polls : Polls Opening StandsIn written_of wire old new before after' answer) → waits_in (polls.events ++ polls.final) ≡ 0
+  poll-waits answer polls = waits_in-append polls.events polls.final ∙ rw (moved-waits polls.events polls.moved, final-waits (Asks Opening StandsIn written_of new) wire answer polls.final polls.concludes) refl
+
+  leaves-end : (v : Verdict) → Leaves Opening StandsIn written_of rest_of new (step.Done v) → (talk : List (List ℕ) → Said) (b : List ℕ) → StandsIn talk b new → new.rest ≡ left talk b (length new.written)
+  leaves-end v h = h
+
+  pub poll-ended : (v : Verdict) (polls : Polls Opening StandsIn written_of wire old new before after' (step.Done v)) → Leaves Opening StandsIn written_of rest_of new (step.Done v) →
+      EndedBy wire before after' old new v (polls.events ++ polls.final)
+  poll-ended v polls leaves = record {
+    gained = polls.moves.gained;
+    own = poll-calls (step.Done v) polls;
+    waits = poll-waits (step.Done v) polls;
+    asked = λ h. asks-append (Some (begins h)) polls.events polls.final ∙ (ap (λ a. asks a polls.final) (moved-asks h polls.events polls.moved) ∙ final-asks (Asks Opening StandsIn written_of new) wire v h polls.final polls.concludes);
+    shows = λ held. registry-append held polls.events polls.final ∙ (ap (λ x. registry x polls.final) (moved-shows held polls.events polls.moved) ∙ final-shows (Asks Opening StandsIn written_of new) wire v held polls.final polls.concludes);
+    ends = λ talk b paused p stands.
+        let at' = polled (step.Done v) polls talk b stands in
+        let got : List ℕ = b ++ flat_map bytes_got polls.events in
+        let taken : List ℕ = old.written ++ flat_map bytes_taken polls.events in
+        let left-so : new.rest ≡ left talk got (length taken) = leaves-end v leaves talk got at'.stands ∙ ap (λ x. left talk got (length x)) at'.written in
+        ap (option_and_then outcome_of) (at'.through paused p)
+        ∙ (final-ends p talk got taken (paused-after paused polls.events) wire v polls.final at'.last at'.concludes
+        ∙ rw (at'.written, left-so) refl);
+  }
+
+  leaves-stop : (dir : Dir) → Leaves Opening StandsIn written_of rest_of new (stop_step dir) → (talk : List (List ℕ) → Said) (b : List ℕ) → StandsIn talk b new → new.rest ≡ left talk b (length new.written)
+  leaves-stop Read h = h
+  leaves-stop Write h = h
+
+  pub poll-stopped : (dir : Dir) (polls : Polls Opening StandsIn written_of wire old new before after' (stop_step dir)) → Leaves Opening StandsIn written_of rest_of new (stop_step dir) →
+      StoppedBy wire dir before after' old new (polls.events ++ polls.final)
+  poll-stopped dir polls leaves = record {
+    gained = polls.moves.gained;
+    own = poll-calls (stop_step dir) polls;
+    waits = poll-waits (stop_step dir) polls;
+    asked = λ h. asks-append (Some (begins h)) polls.events polls.final ∙ (ap (λ a. asks a polls.final) (moved-asks h polls.events polls.moved) ∙ stop-asks (Asks Opening StandsIn written_of new) wire dir h polls.final polls.concludes);
+    shows = λ held. registry-append held polls.events polls.final ∙ (ap (λ x. registry x polls.final) (moved-shows held polls.events polls.moved) ∙ stop-shows (Asks Opening StandsIn written_of new) wire dir held polls.final polls.concludes);
+    last = λ earlier. last_stop-append earlier polls.events polls.final ∙ stop-last (Asks Opening StandsIn written_of new) wire dir (last_stop earlier polls.events) polls.final polls.concludes;
+    goes = λ talk b stands.
+        let at' = polled (stop_step dir) polls talk b stands in
+        let got : List ℕ = b ++ flat_map bytes_got polls.events in
+        let taken : List ℕ = old.written ++ flat_map bytes_taken polls.events in
+        let left-so : new.rest ≡ left talk got (length taken) = leaves-stop dir leaves talk got at'.stands ∙ ap (λ x. left talk got (length x)) at'.written in
+        let stood : at talk got taken true ≡ stands_at talk got new true = ap (λ w. at talk got w true) (sym at'.written) in (
+          got,
+          record {
+            stands = at'.stands;
+            through = λ paused p. at'.through paused p
+                ∙ (stop-through p talk got taken (paused-after paused polls.events) wire dir polls.final at'.last at'.concludes
+                ∙ ap Some stood);
+            waiting = ap outcome_of (sym stood) ∙ (stop-waiting talk got taken wire dir polls.final at'.last at'.concludes ∙ rw (at'.written, left-so) refl);
+          },
+        );
+  }

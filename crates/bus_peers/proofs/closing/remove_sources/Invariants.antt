@@ -1,0 +1,21 @@
+use Rattle.std.proofs.Common.{◌≡◌, List, length, map, true, OnOk}
+use Rattle.std.specs.List.{list_all}
+use Rattle.react_core.specs.declared.outside.Event.{Event}
+use Rattle.react_core.specs.Told.{told}
+use Rattle.bus_peers.specs.Headline.{is_delete}
+use Rattle.bus_peers.specs.Settled.{closing}
+use Rattle.bus_peers.specs.Shown.{shown, tags}
+use Rattle.bus_peers.specs.Visited.{VisitCounted}
+use Rattle.bus_peers.proofs.ClosingLemmas.{Left, with_sources}
+use Rattle.bus_peers.proofs.closing.remove_sources.Given as goal
+
+abbrev pub invariant-loop-slot : goal.invariant-loop-slot
+invariant-loop-slot g l = record {
+  same : l.slot-items ≡ l.fn.slots.items;
+  reactor : l.reactor ≡ with_sources l.fn.reactor l.reactor.core.sources;
+  left : Left l.slot-index (length l.fn.slots.items) (tags l.fn.reactor.core.sources) (tags l.reactor.core.sources);
+  told_so : OnOk l.answer (g.R.Tells.events l.registrar ≡ told (g.R.Tells.events l.fn.registrar) (closing l.slot-index 0 (map shown l.fn.reactor.core.sources)));
+  removals : (more : List Event) × (g.R.Tells.events l.registrar ≡ told (g.R.Tells.events l.fn.registrar) more) × (list_all is_delete more ≡ true);
+  cause : VisitCounted l.answer (g.R.Tells.poller_faults l.fn.registrar) (g.R.Tells.poller_faults l.registrar);
+  origin : g.R.Tells.origin l.registrar ≡ g.R.Tells.origin l.fn.registrar;
+}

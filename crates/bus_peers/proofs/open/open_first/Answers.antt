@@ -1,0 +1,80 @@
+use Rattle.std.proofs.Common.{rules, ◌≡◌, ◌≤◌, ◌+◌, ◌-◌, ℕ, List, [], ◌∷◌, length, vec_capacity, Some, slice_get, refl, sym, ◌∙◌, ap, subst, arith}
+use Rattle.std.specs.List.{list_all}
+use Rattle.std.proofs.lemmas.List.{length-append}
+use Rattle.std.proofs.lemmas.Option.{slice_get-get_or}
+use Rattle.bus_peers.specs.declared.session.Session.{Session}
+use Rattle.bus_peers.specs.declared.visiting.Slot.{Slot}
+use Rattle.bus_peers.specs.Settled.{counting}
+use Rattle.bus_peers.specs.Shown.{tags}
+use Rattle.bus_peers.specs.Slots.{Owned, Went, Refuses, is_open_slot}
+use Rattle.bus_peers.specs.Visited.{FirstVisits}
+use Rattle.bus_peers.proofs.SlotLemmas.{test-more, no_wire-above, owned-none, owned-first, first-open, refuses-more}
+use Rattle.bus_peers.proofs.GoingLemmas.{going-start, going-first, went-told}
+use Rattle.bus_peers.proofs.open.open_first.Goals as goal
+
+pub loop-session-init : goal.loop-session-init
+loop-session-init g c =
+    let all : length c.deref-session-items.result.now ≡ length c.deref-session-items.result.now - 0 = omega arith in
+    let W : ℕ → ℕ → Type 0 = λ rounds n. Went c.deref-session-items.result.now rounds (counting n 0) 0 c.args.reactor.now.core (g.O.Tells.events c.args.outside.now) (g.O.Tells.events c.args.outside.now) c.args.reactor.now.core c.args.slots.now.items in
+    let R : List Session → Type 0 = λ x. length x ≤ vec_capacity c.args.slots.now in
+    record {
+      same = c.deref-session-items.ensures.value;
+      wire = refl;
+      len = ap length c.requires.unused;
+      room = subst R (sym c.deref-session-items.ensures.value) c.requires.room;
+      went = λ rounds. subst (W rounds) all (going-start c.deref-session-items.result.now rounds (g.O.Tells.events c.args.outside.now) c.args.reactor.now.core c.args.slots.now.items c.requires.rests c.requires.empty c.requires.unused);
+      stands = ap (list_all is_open_slot) c.requires.unused;
+      owned = owned-none c.args.slots.now.items (tags c.args.reactor.now.core.sources) c.requires.unused (ap tags c.requires.empty);
+      poller = refl;
+      origin = refl;
+      reports = refl;
+    }
+
+pub first_visit-requires-clause-rests : goal.first_visit-requires-clause-rests
+first_visit-requires-clause-rests g c = (c.loop-session.invariant.went 0).3.rests
+
+pub first_visit-requires-clause-new : goal.first_visit-requires-clause-new
+first_visit-requires-clause-new g c =
+    no_wire-above (length c.loop-session.slots.items) c.loop-session.wire (tags c.loop-session.reactor.core.sources) c.loop-session.invariant.owned.below
+    (omega (arith, c.loop-session.invariant.len, c.loop-session.invariant.wire))
+
+pub returns-in_err-first_visit-clause-refused : goal.returns-in_err-first_visit-clause-refused
+returns-in_err-first_visit-clause-refused g c =
+    let here : Refuses c.from_residual.result (g.O.Tells.events c.loop-session.outside) (g.O.Tells.events c.first_visit.new.outside) c.loop-session.reactor.core c.first_visit.new.reactor.core = search rules in
+    refuses-more c.from_residual.result (g.O.Tells.events c.args.outside.now) (g.O.Tells.events c.loop-session.outside) (g.O.Tells.events c.first_visit.new.outside) c.args.reactor.now.core c.loop-session.reactor.core c.first_visit.new.reactor.core
+    (went-told c.deref-session-items.result.now 0 0 (counting (length c.deref-session-items.result.now - c.loop-session.session-index) c.loop-session.session-index) c.args.reactor.now.core (g.O.Tells.events c.args.outside.now) (g.O.Tells.events c.loop-session.outside) c.loop-session.reactor.core c.loop-session.slots.items (c.loop-session.invariant.went 0)) here
+
+pub loop-session-preserved : goal.loop-session-preserved
+loop-session-preserved g c =
+    let here : c.loop-session.session-index ≡ length c.loop-session.slots.items = sym c.loop-session.invariant.len in
+    let at : slice_get c.deref-session-items.result.now c.loop-session.session-index ≡ Some c.session-item.result =
+    slice_get-get_or c.deref-session-items.result.now c.loop-session.session-index c.session-item.result c.loop-session-test.true ∙ ap Some (sym c.session-item.is) in
+    let V : ℕ → Type 0 = λ w. FirstVisits c.session-item.result w (g.O.Tells.events c.loop-session.outside) (g.O.Tells.events c.first_visit.new.outside) c.loop-session.reactor.core c.first_visit.new.reactor.core c.in_ok-first_visit.field-0 in
+    let W : ℕ → List Slot → Type 0 = λ rounds x. Went c.deref-session-items.result.now rounds (counting (length c.deref-session-items.result.now - (c.loop-session.session-index + 1)) (c.loop-session.session-index + 1)) 0 c.args.reactor.now.core (g.O.Tells.events c.args.outside.now) (g.O.Tells.events c.first_visit.new.outside) c.first_visit.new.reactor.core x in
+    let O : List Slot → Type 0 = λ x. Owned x (tags c.first_visit.new.reactor.core.sources) in
+    record {
+      same = c.loop-session.invariant.same;
+      wire = ap (λ n. n + 1) c.loop-session.invariant.wire;
+      len = ap length c.push_reserved.ensures.items ∙ (length-append c.loop-session.slots.items (c.in_ok-first_visit.field-0 ∷ []) ∙ ap (λ n. n + 1) c.loop-session.invariant.len);
+      room = omega (arith, c.loop-session.invariant.room, c.push_reserved.ensures.capacity);
+      went = λ rounds. subst (W rounds) (sym c.push_reserved.ensures.items)
+          (going-first c.deref-session-items.result.now rounds c.loop-session.session-index c.args.reactor.now.core (g.O.Tells.events c.args.outside.now) (g.O.Tells.events c.loop-session.outside) (g.O.Tells.events c.first_visit.new.outside) c.loop-session.reactor.core c.first_visit.new.reactor.core c.loop-session.slots.items
+          c.session-item.result c.in_ok-first_visit.field-0 here at (subst V c.loop-session.invariant.wire c.in_ok-first_visit.ensures.visited) (c.loop-session.invariant.went rounds));
+      stands = ap (list_all is_open_slot) c.push_reserved.ensures.items ∙ test-more is_open_slot c.loop-session.slots.items c.in_ok-first_visit.field-0 c.loop-session.invariant.stands
+          (first-open c.session-item.result c.loop-session.wire (g.O.Tells.events c.loop-session.outside) (g.O.Tells.events c.first_visit.new.outside) c.loop-session.reactor.core c.first_visit.new.reactor.core c.in_ok-first_visit.field-0 c.in_ok-first_visit.ensures.visited);
+      owned = subst O (sym c.push_reserved.ensures.items) (owned-first c.loop-session.wire c.loop-session.slots.items (tags c.loop-session.reactor.core.sources) (tags c.first_visit.new.reactor.core.sources) c.in_ok-first_visit.field-0
+          (c.loop-session.invariant.wire ∙ here) c.in_ok-first_visit.ensures.tags c.loop-session.invariant.owned);
+      poller = c.in_ok-first_visit.ensures.cause ∙ c.loop-session.invariant.poller;
+      origin = c.in_ok-first_visit.ensures.origin ∙ c.loop-session.invariant.origin;
+      reports = c.in_ok-first_visit.ensures.reports ∙ c.loop-session.invariant.reports;
+    }
+
+pub returns-clause-went : goal.returns-clause-went
+returns-clause-went g c = λ rounds.
+    let none : length c.deref-session-items.result.now - c.loop-session.session-index ≡ 0 = omega (arith, c.loop-session-test.false) in
+    let W : ℕ → Type 0 = λ n. Went c.deref-session-items.result.now rounds (counting n c.loop-session.session-index) 0 c.args.reactor.now.core (g.O.Tells.events c.args.outside.now) (g.O.Tells.events c.loop-session.outside) c.loop-session.reactor.core c.loop-session.slots.items in
+    let U : List Session → Type 0 = λ x. Went x rounds [] 0 c.args.reactor.now.core (g.O.Tells.events c.args.outside.now) (g.O.Tells.events c.loop-session.outside) c.loop-session.reactor.core c.loop-session.slots.items in
+    subst U c.loop-session.invariant.same (subst W none (c.loop-session.invariant.went rounds))
+
+pub returns-clause-rests : goal.returns-clause-rests
+returns-clause-rests g c = (c.loop-session.invariant.went 0).3.rests

@@ -1,0 +1,30 @@
+use Rattle.std.proofs.Common.{◌≡◌, ℕ, List, Option, sym, subst}
+use Rattle.std.proofs.lemmas.Result.{on_ok_weaker}
+use Rattle.react_core.specs.declared.outside.Event.{Event}
+use Rattle.react_core.specs.Core.{Core}
+use Rattle.react_core.specs.Round.{Round}
+use Rattle.bus_peers.specs.Rounds.{Rounded}
+use Rattle.bus_peers.proofs.SlotLemmas.{refuses-more, told-both}
+use Rattle.bus_peers.proofs.GoingLemmas.{going-round, round-told, round-wires}
+use Rattle.bus_peers.proofs.rounds.go_round.Goals as goal
+
+seen : (r0 r1 : Option (List Event)) (old new : Core) (wires woken : List ℕ) → wires ≡ woken → (r : Round) × Rounded r0 r1 old new woken r → (r : Round) × Rounded r0 r1 old new wires r
+seen r0 r1 old new wires woken same x = let P : List ℕ → Type 0 = λ w. (r : Round) × Rounded r0 r1 old new w r in subst P (sym same) x
+
+pub visit_woken-requires-clause-registered : goal.visit_woken-requires-clause-registered
+visit_woken-requires-clause-registered g c = round-wires (g.O.Tells.events c.args.outside.now) (g.O.Tells.events c.round.new.outside) c.args.reactor.now.core c.round.new.reactor.core c.as_slice.result.now (seen (g.O.Tells.events c.args.outside.now) (g.O.Tells.events c.round.new.outside) c.args.reactor.now.core c.round.new.reactor.core c.as_slice.result.now c.in_ok-woken.woken.items c.as_slice.ensures.value c.in_ok-woken.ensures.rounded) c.in_ok-woken.ensures.tags
+
+pub returns-clause-went : goal.returns-clause-went
+returns-clause-went g c =
+    on_ok_weaker c.visit_woken.result (λ went. going-round (g.O.Tells.events c.args.outside.now) (g.O.Tells.events c.round.new.outside) (g.O.Tells.events c.visit_woken.new.outside) c.args.reactor.now.core c.round.new.reactor.core c.visit_woken.new.reactor.core c.args.slots.now.items c.visit_woken.new.slots.items c.as_slice.result.now
+    (seen (g.O.Tells.events c.args.outside.now) (g.O.Tells.events c.round.new.outside) c.args.reactor.now.core c.round.new.reactor.core c.as_slice.result.now c.in_ok-woken.woken.items c.as_slice.ensures.value c.in_ok-woken.ensures.rounded) went) c.visit_woken.ensures.went
+
+pub returns-clause-told : goal.returns-clause-told
+returns-clause-told g c =
+    on_ok_weaker c.visit_woken.result (λ told. told-both (g.O.Tells.events c.args.outside.now) (g.O.Tells.events c.round.new.outside) (g.O.Tells.events c.visit_woken.new.outside) c.args.reactor.now.core c.round.new.reactor.core c.visit_woken.new.reactor.core
+    (round-told (g.O.Tells.events c.args.outside.now) (g.O.Tells.events c.round.new.outside) c.args.reactor.now.core c.round.new.reactor.core c.as_slice.result.now (seen (g.O.Tells.events c.args.outside.now) (g.O.Tells.events c.round.new.outside) c.args.reactor.now.core c.round.new.reactor.core c.as_slice.result.now c.in_ok-woken.woken.items c.as_slice.ensures.value c.in_ok-woken.ensures.rounded)) told) c.visit_woken.ensures.told
+
+pub returns-clause-refused : goal.returns-clause-refused
+returns-clause-refused g c =
+    refuses-more c.visit_woken.result (g.O.Tells.events c.args.outside.now) (g.O.Tells.events c.round.new.outside) (g.O.Tells.events c.visit_woken.new.outside) c.args.reactor.now.core c.round.new.reactor.core c.visit_woken.new.reactor.core
+    (round-told (g.O.Tells.events c.args.outside.now) (g.O.Tells.events c.round.new.outside) c.args.reactor.now.core c.round.new.reactor.core c.as_slice.result.now (seen (g.O.Tells.events c.args.outside.now) (g.O.Tells.events c.round.new.outside) c.args.reactor.now.core c.round.new.reactor.core c.as_slice.result.now c.in_ok-woken.woken.items c.as_slice.ensures.value c.in_ok-woken.ensures.rounded)) c.visit_woken.ensures.refused

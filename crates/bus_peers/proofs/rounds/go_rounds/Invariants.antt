@@ -1,0 +1,23 @@
+use Rattle.std.proofs.Common.{◌≡◌, ◌≤◌, ◌-◌, List, length}
+use Rattle.react_core.specs.declared.outside.Event.{Event}
+use Rattle.bus_peers.specs.Shown.{Rests, tags}
+use Rattle.bus_peers.specs.Slots.{Owned, AllOpen, Told}
+use Rattle.bus_peers.proofs.GoingLemmas.{GoesOnTo}
+use Rattle.bus_peers.proofs.rounds.go_rounds.Given as goal
+
+abbrev pub invariant-loop-done : goal.invariant-loop-done
+invariant-loop-done g l = record {
+  few : l.done ≤ l.rounds;
+  went : GoesOnTo l.rounds l.done (g.O.Tells.events l.fn.outside) (g.O.Tells.events l.outside) l.fn.reactor.core l.reactor.core l.fn.slots.items l.slots.items;
+  rests : Rests l.reactor.core;
+  stands : AllOpen l.slots.items;
+  owned : Owned l.slots.items (tags l.reactor.core.sources);
+  len : length l.slots.items ≡ length l.fn.slots.items;
+  told : (more : List Event) × Told (g.O.Tells.events l.fn.outside) (g.O.Tells.events l.outside) l.fn.reactor.core l.reactor.core more;
+  poller : g.O.Tells.poller_faults l.outside ≡ g.O.Tells.poller_faults l.fn.outside;
+  origin : g.O.Tells.origin l.outside ≡ g.O.Tells.origin l.fn.outside;
+  reports : l.reactor.events ≡ l.fn.reactor.events;
+}
+
+abbrev pub decreases-loop-done : goal.decreases-loop-done
+decreases-loop-done g l = l.rounds - l.done

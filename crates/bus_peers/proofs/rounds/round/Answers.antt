@@ -1,0 +1,25 @@
+use Rattle.std.proofs.Common.{Result, Ok, Err, IfOk}
+use Rattle.bus_peers.proofs.RoundLemmas.{rounded, round-tags, round-refused, refused-tags}
+use Rattle.bus_peers.proofs.rounds.round.Goals as goal
+
+if_ok : {T E : Type 0} (P Q : T → Type 0) (r : Result T E) → ((v : T) → P v → Q v) → IfOk r P → IfOk r Q
+if_ok P Q (Ok v) by h = by v h
+if_ok P Q (Err e) by h = tt
+
+pub returns-in_err-react-clause-refused : goal.returns-in_err-react-clause-refused
+returns-in_err-react-clause-refused g c =
+    let e = c.in_err-react.ensures in
+    round-refused c.from_residual.result _ _ _ _ c.args.reactor.now c.react.new.self _ c.react.new.wakes c.in_err-react.field-0.0 c.from_residual.ensures.1 e.ran e.exhausted e.numbered e.closed
+
+pub returns-in_err-react-clause-tags : goal.returns-in_err-react-clause-tags
+returns-in_err-react-clause-tags g c =
+    let e = c.in_err-react.ensures in
+    refused-tags _ _ _ _ c.args.reactor.now c.react.new.self _ c.react.new.wakes c.in_err-react.field-0.0 e.ran e.exhausted
+
+pub returns-clause-rounded : goal.returns-clause-rounded
+returns-clause-rounded g c =
+    let (r, x) = c.in_ok-react.ensures.rounds in
+    if_ok _ _ c.in_order.result (λ woken ordered. (r, rounded _ _ c.args.reactor.now.core c.react.new.self.core _ c.react.new.wakes woken.items r x c.requires.rests c.keys_rise.ensures c.new.ensures.items ordered)) c.in_order.ensures.ordered
+
+pub returns-clause-tags : goal.returns-clause-tags
+returns-clause-tags g c = let (r, x) = c.in_ok-react.ensures.rounds in round-tags _ _ _ _ c.args.reactor.now.core c.react.new.self.core _ _ r x

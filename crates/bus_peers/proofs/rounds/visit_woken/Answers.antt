@@ -1,0 +1,42 @@
+use Rattle.std.proofs.Common.{rules, ◌≡◌, ◌<◌, ◌+◌, ℕ, List, ◌∷◌, length, drop, slice_index_or, refl, ◌∙◌, arith, add-one, drop-cons}
+use Rattle.std.proofs.lemmas.List.{drop_all}
+use Rattle.bus_peers.specs.Shown.{tags}
+use Rattle.bus_peers.specs.Slots.{Refuses}
+use Rattle.bus_peers.proofs.SlotLemmas.{refuses-more, told-both, rise-next, have-rest, wire-below, goes-next, goes-all}
+use Rattle.bus_peers.proofs.rounds.visit_woken.Goals as goal
+
+next : (wires : List ℕ) (i : ℕ) → i < length wires → drop i wires ≡ slice_index_or wires i 0 ∷ drop (i + 1) wires
+next wires i less = rw (add-one, drop-cons wires i 0) refl
+
+pub overflow_cast-wire : goal.overflow_cast-wire
+overflow_cast-wire g c =
+    let less : slice_index_or c.args.woken.now c.loop-wire.wire-index 0 < length c.args.slots.now.items =
+    wire-below (slice_index_or c.args.woken.now c.loop-wire.wire-index 0) (length c.args.slots.now.items) (drop c.loop-wire.wire-index c.args.woken.now) (drop (c.loop-wire.wire-index + 1) c.args.woken.now) c.loop-wire.slots.items (tags c.loop-wire.reactor.core.sources) (next c.args.woken.now c.loop-wire.wire-index c.loop-wire-test.true)
+    c.loop-wire.invariant.registered c.loop-wire.invariant.owned c.loop-wire.invariant.len in
+    omega (arith, less, c.requires.few)
+
+pub returns-in_err-visit_slot-clause-refused : goal.returns-in_err-visit_slot-clause-refused
+returns-in_err-visit_slot-clause-refused g c =
+    let here : Refuses c.from_residual.result (g.O.Tells.events c.loop-wire.outside) (g.O.Tells.events c.visit_slot.new.outside) c.loop-wire.reactor.core c.visit_slot.new.reactor.core = search rules in
+    refuses-more c.from_residual.result (g.O.Tells.events c.args.outside.now) (g.O.Tells.events c.loop-wire.outside) (g.O.Tells.events c.visit_slot.new.outside) c.args.reactor.now.core c.loop-wire.reactor.core c.visit_slot.new.reactor.core c.loop-wire.invariant.told here
+
+pub loop-wire-preserved : goal.loop-wire-preserved
+loop-wire-preserved g c = record {
+  went = goes-next (slice_index_or c.args.woken.now c.loop-wire.wire-index 0) c.args.woken.now (drop c.loop-wire.wire-index c.args.woken.now) (drop (c.loop-wire.wire-index + 1) c.args.woken.now) (g.O.Tells.events c.args.outside.now) (g.O.Tells.events c.loop-wire.outside) (g.O.Tells.events c.visit_slot.new.outside) c.args.reactor.now.core c.loop-wire.reactor.core c.visit_slot.new.reactor.core
+      c.args.slots.now.items c.loop-wire.slots.items c.visit_slot.new.slots.items (next c.args.woken.now c.loop-wire.wire-index c.loop-wire-test.true) c.loop-wire.invariant.went c.in_ok-visit_slot.ensures.went;
+  rests = c.in_ok-visit_slot.ensures.rests;
+  stands = c.in_ok-visit_slot.ensures.stands;
+  owned = c.in_ok-visit_slot.ensures.owned;
+  len = c.in_ok-visit_slot.ensures.len ∙ c.loop-wire.invariant.len;
+  rise = rise-next (slice_index_or c.args.woken.now c.loop-wire.wire-index 0) (drop c.loop-wire.wire-index c.args.woken.now) (drop (c.loop-wire.wire-index + 1) c.args.woken.now) (next c.args.woken.now c.loop-wire.wire-index c.loop-wire-test.true) c.loop-wire.invariant.rise;
+  registered = have-rest (slice_index_or c.args.woken.now c.loop-wire.wire-index 0) (drop c.loop-wire.wire-index c.args.woken.now) (drop (c.loop-wire.wire-index + 1) c.args.woken.now) (tags c.loop-wire.reactor.core.sources) (tags c.visit_slot.new.reactor.core.sources) (next c.args.woken.now c.loop-wire.wire-index c.loop-wire-test.true)
+      c.loop-wire.invariant.rise c.in_ok-visit_slot.ensures.others c.loop-wire.invariant.registered;
+  told = told-both (g.O.Tells.events c.args.outside.now) (g.O.Tells.events c.loop-wire.outside) (g.O.Tells.events c.visit_slot.new.outside) c.args.reactor.now.core c.loop-wire.reactor.core c.visit_slot.new.reactor.core c.loop-wire.invariant.told c.in_ok-visit_slot.ensures.told;
+  poller = c.in_ok-visit_slot.ensures.cause ∙ c.loop-wire.invariant.poller;
+  origin = c.in_ok-visit_slot.ensures.origin ∙ c.loop-wire.invariant.origin;
+  reports = c.in_ok-visit_slot.ensures.reports ∙ c.loop-wire.invariant.reports;
+}
+
+pub returns-clause-went : goal.returns-clause-went
+returns-clause-went g c = goes-all c.args.woken.now (drop c.loop-wire.wire-index c.args.woken.now) (g.O.Tells.events c.args.outside.now) (g.O.Tells.events c.loop-wire.outside) c.args.reactor.now.core c.loop-wire.reactor.core c.args.slots.now.items c.loop-wire.slots.items
+    (drop_all c.loop-wire.wire-index c.args.woken.now c.loop-wire-test.false) c.loop-wire.invariant.went

@@ -1,0 +1,40 @@
+use Rattle.std.proofs.Common.{inl, inr, refl, ◌∙◌}
+use Rattle.bus_peers.proofs.Turns.{on-err, turning-more, turning-keeps, turning-holds, turning-rests, turning-open}
+use Rattle.bus_peers.specs.declared.visiting.Turn.TheVariants as turn
+use Rattle.bus_peers.proofs.visiting.resume.Goals as goal
+
+pub loop-ending-init : goal.loop-ending-init
+loop-ending-init g c = record { turning = inl (refl, refl, refl); poller = refl; origin = refl; reports = refl }
+
+pub take_turn-requires-clause-holds : goal.take_turn-requires-clause-holds
+take_turn-requires-clause-holds g c = turning-holds c.args.wire c.args.key _ _ c.args.reactor.now.core c.loop-ending.reactor.core c.args.client.now c.loop-ending.client c.requires.holds c.loop-ending.invariant.turning
+
+pub take_turn-requires-clause-rests : goal.take_turn-requires-clause-rests
+take_turn-requires-clause-rests g c = turning-rests c.args.wire c.args.key _ _ c.args.reactor.now.core c.loop-ending.reactor.core c.args.client.now c.loop-ending.client c.requires.rests c.loop-ending.invariant.turning
+
+pub take_turn-requires-clause-open : goal.take_turn-requires-clause-open
+take_turn-requires-clause-open g c = turning-open c.args.wire c.args.key _ _ c.args.reactor.now.core c.loop-ending.reactor.core c.args.client.now c.loop-ending.client c.requires.open c.loop-ending.invariant.turning
+
+pub returns-in_err-ending-clause-refused : goal.returns-in_err-ending-clause-refused
+returns-in_err-ending-clause-refused g c = on-err _ (turning-keeps c.args.wire c.args.key _ _ _ c.args.reactor.now.core c.loop-ending.reactor.core c.take_turn.new.reactor.core c.args.client.now c.loop-ending.client
+    c.loop-ending.invariant.turning c.in_err-ending.ensures.refused)
+
+pub returns-in-Over-clause-resumed : goal.returns-in-Over-clause-resumed
+returns-in-Over-clause-resumed g c = turning-more c.args.wire c.args.key _ _ _ c.args.reactor.now.core c.loop-ending.reactor.core c.take_turn.new.reactor.core c.args.client.now c.loop-ending.client c.take_turn.new.client (turn.Over c.in-Over.ending)
+    c.loop-ending.invariant.turning (rw c.in-Over.is at c.in_ok-ending.ensures.turned)
+
+pub returns-in-Asleep-clause-resumed : goal.returns-in-Asleep-clause-resumed
+returns-in-Asleep-clause-resumed g c = turning-more c.args.wire c.args.key _ _ _ c.args.reactor.now.core c.loop-ending.reactor.core c.take_turn.new.reactor.core c.args.client.now c.loop-ending.client c.take_turn.new.client turn.Asleep
+    c.loop-ending.invariant.turning (rw c.in-Asleep.is at c.in_ok-ending.ensures.turned)
+
+pub loop-ending-smaller : goal.loop-ending-smaller
+loop-ending-smaller g c = rw c.in-Again.is at c.in_ok-ending.ensures.onward
+
+pub loop-ending-preserved : goal.loop-ending-preserved
+loop-ending-preserved g c = record {
+  turning = inr (turning-more c.args.wire c.args.key _ _ _ c.args.reactor.now.core c.loop-ending.reactor.core c.take_turn.new.reactor.core c.args.client.now c.loop-ending.client c.take_turn.new.client turn.Again
+      c.loop-ending.invariant.turning (rw c.in-Again.is at c.in_ok-ending.ensures.turned));
+  poller = c.in_ok-ending.ensures.cause ∙ c.loop-ending.invariant.poller;
+  origin = c.take_turn.ensures.origin ∙ c.loop-ending.invariant.origin;
+  reports = c.take_turn.ensures.reports ∙ c.loop-ending.invariant.reports;
+}

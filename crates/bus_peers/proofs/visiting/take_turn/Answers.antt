@@ -1,0 +1,27 @@
+use Rattle.bus_opening.specs.declared.verdict.Step.TheVariants as step
+use Rattle.react_core.specs.declared.reactor.Dir.TheVariants.{Read, Write}
+use Rattle.bus_peers.proofs.Turns.{on-err, keeps-poll, keeps-ready, turned-over, turned-stop}
+use Rattle.bus_peers.proofs.visiting.take_turn.Goals as goal
+
+pub returns-in_err-again-in-WantRead-clause-refused : goal.returns-in_err-again-in-WantRead-clause-refused
+returns-in_err-again-in-WantRead-clause-refused g c = on-err _ (keeps-ready c.args.wire _ _ _ c.args.reactor.now.core c.ready.new.reactor.core c.args.client.now c.poll.new.self step.WantRead
+    c.in-WantRead.ensures.polls c.in_err-again-in-WantRead.ensures.refused)
+
+pub returns-in_err-again-in-WantWrite-clause-refused : goal.returns-in_err-again-in-WantWrite-clause-refused
+returns-in_err-again-in-WantWrite-clause-refused g c = on-err _ (keeps-ready c.args.wire _ _ _ c.args.reactor.now.core c.ready-in-WantWrite.new.reactor.core c.args.client.now c.poll.new.self step.WantWrite
+    c.in-WantWrite.ensures.polls c.in_err-again-in-WantWrite.ensures.refused)
+
+pub returns-in-Done-clause-turned : goal.returns-in-Done-clause-turned
+returns-in-Done-clause-turned g c = turned-over c.args.wire c.args.key _ _ c.args.reactor.now.core c.args.client.now c.poll.new.self c.in-Done.verdict c.ending_of.result c.requires.holds c.requires.rests
+    c.in-Done.ensures.polls c.in-Done.ensures.leaves c.ending_of.ensures
+
+pub returns-in_ok-again-in-WantRead-clause-turned : goal.returns-in_ok-again-in-WantRead-clause-turned
+returns-in_ok-again-in-WantRead-clause-turned g c = turned-stop c.args.wire c.args.key Read _ _ _ c.args.reactor.now.core c.ready.new.reactor.core c.args.client.now c.poll.new.self c.in_ok-again-in-WantRead.again c.turn_of.result
+    c.in-WantRead.ensures.polls c.in-WantRead.ensures.leaves c.in-WantRead.ensures.ended c.in_ok-again-in-WantRead.ensures.readied c.turn_of.ensures
+
+pub returns-in_ok-again-in-WantWrite-clause-turned : goal.returns-in_ok-again-in-WantWrite-clause-turned
+returns-in_ok-again-in-WantWrite-clause-turned g c = turned-stop c.args.wire c.args.key Write _ _ _ c.args.reactor.now.core c.ready-in-WantWrite.new.reactor.core c.args.client.now c.poll.new.self c.in_ok-again-in-WantWrite.again c.turn_of-in-WantWrite.result
+    c.in-WantWrite.ensures.polls c.in-WantWrite.ensures.leaves c.in-WantWrite.ensures.ended c.in_ok-again-in-WantWrite.ensures.readied c.turn_of-in-WantWrite.ensures
+
+pub returns-in-OutOfMemory-clause-refused : goal.returns-in-OutOfMemory-clause-refused
+returns-in-OutOfMemory-clause-refused g c = keeps-poll c.args.wire _ _ c.args.reactor.now.core c.args.client.now c.poll.new.self step.OutOfMemory c.requires.rests c.in-OutOfMemory.ensures.polls

@@ -1,0 +1,89 @@
+-- What one round does, whatever the record was before it, and how a call ends.
+use Rattle.std.specs.Prelude.{◌≡◌, ℕ, ◌+◌, Bool, true, false, List, [], ◌∷◌, ◌++◌, map, Option, Some, None, Result, Ok, Err}
+use Rattle.std.specs.List.{list_all}
+use Rattle.react_core.specs.declared.outside.Event.{Event}
+use Rattle.react_core.specs.declared.outside.Event.TheVariants as event
+use Rattle.react_core.specs.declared.source.Source.{Source}
+use Rattle.react_core.specs.Core.{Core, HasSource, removed}
+use Rattle.react_core.specs.Sources.{source_of}
+use Rattle.react_core.specs.Round.{Round, IsRound, reports_of}
+use Rattle.react_core.specs.Told.{told}
+use Rattle.bus_script.specs.declared.ended.Ending.TheVariants as ending
+use Rattle.bus_script.specs.declared.ended.Ended.{Ended}
+use Rattle.bus_peers.specs.declared.rounds.Woken.{Woken}
+use Rattle.bus_peers.specs.declared.visiting.Slot.{Slot}
+use Rattle.bus_peers.specs.declared.visiting.Slot.TheVariants as slot
+use Rattle.bus_peers.specs.declared.open.OpenError.{OpenError}
+use Rattle.bus_peers.specs.declared.open.OpenError.TheVariants as open_err
+use Rattle.bus_peers.specs.Registry.{registry}
+use Rattle.bus_peers.specs.Settled.{AreDue, round_events}
+use Rattle.bus_peers.specs.Shown.{Rests, shown, Tags, has_wire}
+
+-- a task stands behind those that were woken before, unless memory ran out
+abbrev pub WokenBy : Woken → ℕ → Woken → Type 0
+WokenBy old task new = new.lost ≡ false → (old.lost ≡ false) × (new.tasks.items ≡ old.tasks.items ++ task ∷ [])
+
+-- a round, and the wires that it makes due
+pub record Rounded (before after : Option (List Event)) (old new : Core) (woken : List ℕ) (r : Round) : Type 0 where
+  pub form : IsRound None r
+  pub gained : after ≡ told before (round_events (map shown old.sources) r)
+  pub shows : registry (map shown old.sources) (round_events (map shown old.sources) r) ≡ map shown new.sources
+  pub due : AreDue (map shown old.sources) (reports_of r.answer) woken
+  pub rests : Rests new
+  pub ticker : new.ticker ≡ old.ticker + 1
+  pub made : new.made ≡ old.made
+  pub begun : new.begun ≡ old.begun
+
+-- each of these wires is registered
+abbrev pub HaveWires : List ℕ → Tags → Type 0
+HaveWires wires ts = list_all (λ w. has_wire w ts) wires ≡ true
+
+-- what holds where a number was exhausted
+abbrev pub OnExhausted : {T : Type 0} → Result T OpenError → Type 0 → Type 0
+OnExhausted (Ok v) P = Unit {0}
+OnExhausted (Err open_err.OutOfMemory) P = Unit {0}
+OnExhausted (Err open_err.Poller) P = Unit {0}
+OnExhausted (Err (open_err.Exhausted c value)) P = P
+
+-- ---- the sources at the end
+
+-- the reactor has the source of a session that sleeps
+abbrev pub IsHeld : Slot → Core → Type 0
+IsHeld (slot.Ended e) core = Unit {0}
+IsHeld (slot.Asleep s) core = HasSource core s.key
+IsHeld slot.Refused core = Unit {0}
+
+abbrev pub without_slot : Slot → Core → Core
+without_slot (slot.Ended e) core = core
+without_slot (slot.Asleep s) core = removed core s.key
+without_slot slot.Refused core = core
+
+abbrev pub removal_of : Option Source → ℕ → List Event
+removal_of None key = []
+removal_of (Some s) key = event.Delete s.wire key true ∷ []
+
+-- what the removal of its source tells
+abbrev pub removal_told : Slot → Core → List Event
+removal_told (slot.Ended e) core = []
+removal_told (slot.Asleep s) core = removal_of (source_of core.sources s.key) s.key
+removal_told slot.Refused core = []
+
+-- ---- the endings
+
+abbrev pub is_kept : Slot → Bool
+is_kept (slot.Ended e) = true
+is_kept (slot.Asleep s) = true
+is_kept slot.Refused = false
+
+-- what the session of a slot has come to
+abbrev pub EndsIn : ℕ → Slot → Ended → Type 0
+EndsIn wire (slot.Ended e) ended = ended ≡ e
+EndsIn wire (slot.Asleep s) ended = ended ≡ record { ending = ending.Waiting; written = s.client.written; leftover = s.client.rest; wire = wire; moment = None }
+EndsIn wire slot.Refused ended = ⊥
+
+-- the first of these slots is that of this wire
+abbrev pub AllEnd : ℕ → List Slot → List Ended → Type 0
+AllEnd wire [] [] = Unit {0}
+AllEnd wire (c ∷ slots) (e ∷ endeds) = EndsIn wire c e × AllEnd (wire + 1) slots endeds
+AllEnd wire [] (e ∷ endeds) = ⊥
+AllEnd wire (c ∷ slots) [] = ⊥

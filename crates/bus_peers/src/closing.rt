@@ -1,0 +1,89 @@
+//! The end of a call: the sources of the sessions that sleep are taken out, and each session has its ending.
+
+ghost use Rattle.std.specs.Prelude.{◌≡◌, ◌<◌, ◌^◌, List, [], length, map, true, Err, IfOk, OnOk, OnErr};
+ghost use Rattle.std.specs.List.{list_all};
+ghost use Rattle.react_core.specs.declared.outside.Event.{Event};
+ghost use Rattle.react_core.specs.Told.{told};
+ghost use Rattle.bus_peers.specs.declared.open.OpenError.TheVariants as open_err;
+ghost use Rattle.bus_peers.specs.Headline.{is_delete};
+ghost use Rattle.bus_peers.specs.Rounds.{is_kept, AllEnd, EndsIn, IsHeld, without_slot, removal_told};
+ghost use Rattle.bus_peers.specs.Settled.{closing};
+ghost use Rattle.bus_peers.specs.Shown.{shown, tags};
+ghost use Rattle.bus_peers.specs.Slots.{Owned};
+ghost use Rattle.bus_peers.specs.Visited.{VisitCounted};
+
+use crate::open::OpenError;
+use crate::visiting::{Slot, ended_of};
+use bus_script::{Ended, Ending};
+use react_core::outside::Registrar;
+use react_core::reactor::Reactor;
+use std::alloc::Global;
+
+/// Takes out the source of a session that sleeps, if it does.
+fn remove_source<R: Registrar>(
+    reactor: &mut Reactor,
+    registrar: &mut R,
+    slot: &Slot,
+) -> Result<(), OpenError>
+    requires held { IsHeld slot.now reactor.old.core }
+    ensures removed { reactor.new ≡ record reactor.old { core = without_slot slot.now reactor.old.core } }
+    ensures told { OnOk result (R.events registrar.new ≡ told (R.events registrar.old) (removal_told slot.now reactor.old.core)) }
+    ensures removals { (more : List Event) × (R.events registrar.new ≡ told (R.events registrar.old) more) × (list_all is_delete more ≡ true) }
+    ensures cause { VisitCounted result (R.poller_faults registrar.old) (R.poller_faults registrar.new) }
+    ensures origin { R.origin registrar.new ≡ R.origin registrar.old }
+{
+    if let Slot::Asleep(sleeper) = slot {
+        reactor.remove_io(registrar, sleeper.key)?;
+    }
+    Ok(())
+}
+
+/// Takes out the sources of the sessions that sleep, in order, and goes on where one is refused. The first refusal is
+/// answered.
+pub(crate) fn remove_sources<R: Registrar>(
+    reactor: &mut Reactor,
+    registrar: &mut R,
+    slots: &Vec<Slot>,
+) -> Result<(), OpenError>
+    requires owned { Owned slots.now.items (tags reactor.old.core.sources) }
+    ensures reactor { reactor.new ≡ record reactor.old { core = record reactor.old.core { sources = [] } } }
+    ensures told { OnOk result (R.events registrar.new ≡ told (R.events registrar.old) (closing (length slots.now.items) 0 (map shown reactor.old.core.sources))) }
+    ensures removals { (more : List Event) × (R.events registrar.new ≡ told (R.events registrar.old) more) × (list_all is_delete more ≡ true) }
+    ensures cause { VisitCounted result (R.poller_faults registrar.old) (R.poller_faults registrar.new) }
+    ensures origin { R.origin registrar.new ≡ R.origin registrar.old }
+{
+    let mut answer = Ok(());
+    for slot in slots {
+        answer = answer.and(remove_source(reactor, registrar, slot));
+    }
+    answer
+}
+
+/// What the session of a slot has come to: one that sleeps still waits.
+fn ended_in(alloc: Global, wire: u32, slot: Slot) -> Result<Ended, OpenError>
+    requires kept { is_kept slot ≡ true }
+    ensures ended { IfOk result (EndsIn wire slot) }
+    ensures err { OnErr result (result ≡ Err open_err.OutOfMemory) }
+{
+    match slot {
+        Slot::Ended(ended) => Ok(ended),
+        Slot::Asleep(sleeper) => Ok(ended_of(alloc, wire, Ending::Waiting, &sleeper.client)?),
+        Slot::Refused => unreachable!(),
+    }
+}
+
+/// What each session has come to.
+pub(crate) fn endeds_in(alloc: Global, slots: Vec<Slot>) -> Result<Vec<Ended>, OpenError>
+    requires few { length slots.items < 2 ^ 32 }
+    requires kept { list_all is_kept slots.items ≡ true }
+    ensures ended { IfOk result (λ endeds. AllEnd 0 slots.items endeds.items) }
+    ensures err { OnErr result (result ≡ Err open_err.OutOfMemory) }
+{
+    let mut endeds = Vec::with_capacity(alloc, slots.len())?;
+    let mut wire = 0u32;
+    for slot in slots {
+        endeds.push(ended_in(alloc, wire, slot)?)?;
+        wire += 1;
+    }
+    Ok(endeds)
+}

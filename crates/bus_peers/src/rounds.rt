@@ -1,0 +1,210 @@
+//! Rounds: the reactor waits for all sessions that sleep, and those that a round wakes are visited.
+
+ghost use Rattle.std.specs.Prelude.{◌≡◌, ◌≢◌, ◌<◌, ◌^◌, ◌++◌, ◌∷◌, [], List, ℕ, map, length, true, false, Err, IfOk, OnOk, OnErr};
+ghost use Rattle.react_core.specs.Round.{Round};
+ghost use Rattle.react_core.specs.declared.outside.Event.{Event};
+ghost use Rattle.bus_peers.specs.Headline.{OpenCounted};
+ghost use Rattle.bus_peers.specs.Rounds.{Rounded, WokenBy, HaveWires, OnExhausted};
+ghost use Rattle.bus_peers.specs.Registry.{RisesFrom};
+ghost use Rattle.bus_peers.specs.declared.open.OpenError.TheVariants as open_err;
+ghost use Rattle.bus_peers.specs.Settled.{is_in};
+ghost use Rattle.bus_peers.specs.Shown.{Rests, tags, has_wire};
+ghost use Rattle.bus_peers.specs.Slots.{Owned, AllOpen, GoesFrom, GoesRound, GoesRounds, Told, Refuses, Stuck};
+ghost use Rattle.bus_peers.specs.Visited.{VisitCounted, Keeps};
+
+use crate::open::OpenError;
+use crate::session::Session;
+use crate::visiting::{Sleeper, Slot, visit};
+use react_core::outside::{Clock, Outside, Poller, Registrar, Wakes, Wire};
+use react_core::reactor::Reactor;
+use std::alloc::Global;
+use std::mem;
+
+/// The tasks that a round wakes, in the order in which it wakes them.
+#[derive(Drop)]
+pub(crate) struct Woken {
+    tasks: Vec<u64>,
+    /// Memory ran out, and some task is missing.
+    lost: bool,
+}
+
+impl Wakes for Woken {
+    ghost woke = { WokenBy };
+
+    fn wake(&mut self, task: u64) {
+        if self.tasks.push(task).is_err() {
+            self.lost = true;
+        }
+    }
+}
+
+/// Takes no task: a poll of `open_all` wakes nobody, since each direction has one task.
+#[derive(Drop)]
+pub(crate) struct Nobody;
+
+impl Wakes for Nobody {
+    ghost woke = { λ _ _ _. Unit {0} };
+
+    fn wake(&mut self, _task: u64) {}
+}
+
+/// The tasks that were woken, each once and in order.
+fn in_order(woken: Woken) -> Result<Vec<u64>, OpenError>
+    ensures ordered { IfOk result (λ tasks. (woken.lost ≡ false) × RisesFrom 0 tasks.items × ((w : ℕ) → is_in w tasks.items ≡ is_in w woken.tasks.items)) }
+    ensures err { OnErr result (result ≡ Err open_err.OutOfMemory) }
+{
+    if woken.lost {
+        return Err(OpenError::OutOfMemory);
+    }
+    let mut tasks = woken.tasks;
+    if tasks.sort().is_err() {
+        return Err(OpenError::OutOfMemory);
+    }
+    tasks.dedup();
+    Ok(tasks)
+}
+
+/// One round, without a timeout: the sessions that it makes due, in order.
+fn round<O: Clock + Poller>(
+    alloc: Global,
+    reactor: &mut Reactor,
+    outside: &mut O,
+) -> Result<Vec<u64>, OpenError>
+    requires rests { Rests reactor.old.core }
+    ensures rounded { IfOk result (λ woken. (r : Round) × Rounded (O.events outside.old) (O.events outside.new) reactor.old.core reactor.new.core woken.items r) }
+    ensures refused { Refuses result (O.events outside.old) (O.events outside.new) reactor.old.core reactor.new.core }
+    ensures tags { tags reactor.new.core.sources ≡ tags reactor.old.core.sources }
+    ensures exhausted { OnExhausted result (reactor.new ≡ reactor.old × O.events outside.new ≡ O.events outside.old) }
+    ensures cause { OpenCounted result (O.poller_faults outside.old) (O.poller_faults outside.new) }
+    ensures origin { O.origin outside.new ≡ O.origin outside.old }
+    ensures reports { reactor.new.events ≡ reactor.old.events }
+{
+    reactor.counters_fit();
+    reactor.keys_rise();
+    let mut woken = Woken {
+        tasks: Vec::new(alloc),
+        lost: false,
+    };
+    reactor.react(alloc, outside, &mut woken, None)?;
+    in_order(woken)
+}
+
+/// A visit of the session of this wire, which sleeps.
+fn visit_slot<O: Wire + Registrar>(
+    alloc: Global,
+    reactor: &mut Reactor,
+    outside: &mut O,
+    slots: &mut Vec<Slot>,
+    wire: u32,
+) -> Result<(), OpenError>
+    requires rests { Rests reactor.old.core }
+    requires owned { Owned slots.old.items (tags reactor.old.core.sources) }
+    requires stands { AllOpen slots.old.items }
+    requires registered { has_wire wire (tags reactor.old.core.sources) ≡ true }
+    ensures went { OnOk result ((pending : List ℕ) → GoesFrom (wire ∷ pending) pending (O.events outside.old) (O.events outside.new) reactor.old.core reactor.new.core slots.old.items slots.new.items) }
+    ensures rests { OnOk result (Rests reactor.new.core) }
+    ensures stands { OnOk result (AllOpen slots.new.items) }
+    ensures owned { Owned slots.new.items (tags reactor.new.core.sources) }
+    ensures others { (w : ℕ) → w ≢ wire → has_wire w (tags reactor.new.core.sources) ≡ has_wire w (tags reactor.old.core.sources) }
+    ensures len { length slots.new.items ≡ length slots.old.items }
+    ensures told { OnOk result ((more : List Event) × Told (O.events outside.old) (O.events outside.new) reactor.old.core reactor.new.core more) }
+    ensures refused { Refuses result (O.events outside.old) (O.events outside.new) reactor.old.core reactor.new.core }
+    ensures cause { VisitCounted result (O.poller_faults outside.old) (O.poller_faults outside.new) }
+    ensures origin { O.origin outside.new ≡ O.origin outside.old }
+    ensures reports { reactor.new.events ≡ reactor.old.events }
+{
+    let slot = mem::replace(&mut slots[wire as usize], Slot::Refused);
+    let Slot::Asleep(sleeper) = slot else {
+        unreachable!()
+    };
+    slots[wire as usize] = visit(alloc, reactor, outside, &mut Nobody, wire, sleeper)?;
+    Ok(())
+}
+
+/// Visits the sessions of these wires, which sleep, in order.
+fn visit_woken<O: Wire + Registrar>(
+    alloc: Global,
+    reactor: &mut Reactor,
+    outside: &mut O,
+    slots: &mut Vec<Slot>,
+    woken: &[u64],
+) -> Result<(), OpenError>
+    requires rests { Rests reactor.old.core }
+    requires owned { Owned slots.old.items (tags reactor.old.core.sources) }
+    requires stands { AllOpen slots.old.items }
+    requires few { length slots.old.items < 2 ^ 32 }
+    requires rise { RisesFrom 0 woken.now }
+    requires registered { HaveWires woken.now (tags reactor.old.core.sources) }
+    ensures went { OnOk result (GoesFrom woken.now [] (O.events outside.old) (O.events outside.new) reactor.old.core reactor.new.core slots.old.items slots.new.items) }
+    ensures rests { OnOk result (Rests reactor.new.core) }
+    ensures stands { OnOk result (AllOpen slots.new.items) }
+    ensures owned { Owned slots.new.items (tags reactor.new.core.sources) }
+    ensures len { length slots.new.items ≡ length slots.old.items }
+    ensures told { OnOk result ((more : List Event) × Told (O.events outside.old) (O.events outside.new) reactor.old.core reactor.new.core more) }
+    ensures refused { Refuses result (O.events outside.old) (O.events outside.new) reactor.old.core reactor.new.core }
+    ensures cause { VisitCounted result (O.poller_faults outside.old) (O.poller_faults outside.new) }
+    ensures origin { O.origin outside.new ≡ O.origin outside.old }
+    ensures reports { reactor.new.events ≡ reactor.old.events }
+{
+    for wire in woken {
+        visit_slot(alloc, reactor, outside, slots, *wire as u32)?;
+    }
+    Ok(())
+}
+
+/// One round, and a visit of each session that it makes due.
+fn go_round<O: Outside>(
+    alloc: Global,
+    reactor: &mut Reactor,
+    outside: &mut O,
+    slots: &mut Vec<Slot>,
+) -> Result<(), OpenError>
+    requires rests { Rests reactor.old.core }
+    requires owned { Owned slots.old.items (tags reactor.old.core.sources) }
+    requires stands { AllOpen slots.old.items }
+    requires few { length slots.old.items < 2 ^ 32 }
+    ensures went { OnOk result (GoesRound (O.events outside.old) (O.events outside.new) reactor.old.core reactor.new.core slots.old.items slots.new.items) }
+    ensures rests { OnOk result (Rests reactor.new.core) }
+    ensures stands { OnOk result (AllOpen slots.new.items) }
+    ensures owned { Owned slots.new.items (tags reactor.new.core.sources) }
+    ensures len { length slots.new.items ≡ length slots.old.items }
+    ensures told { OnOk result ((more : List Event) × Told (O.events outside.old) (O.events outside.new) reactor.old.core reactor.new.core more) }
+    ensures refused { Refuses result (O.events outside.old) (O.events outside.new) reactor.old.core reactor.new.core }
+    ensures exhausted { OnExhausted result (reactor.new ≡ reactor.old × O.events outside.new ≡ O.events outside.old × slots.new.items ≡ slots.old.items) }
+    ensures cause { OpenCounted result (O.poller_faults outside.old) (O.poller_faults outside.new) }
+    ensures origin { O.origin outside.new ≡ O.origin outside.old }
+    ensures reports { reactor.new.events ≡ reactor.old.events }
+{
+    let woken = round(alloc, reactor, outside)?;
+    visit_woken(alloc, reactor, outside, slots, woken.as_slice())
+}
+
+/// Rounds, while a session sleeps and one is left.
+pub(crate) fn go_rounds<O: Outside>(
+    alloc: Global,
+    reactor: &mut Reactor,
+    outside: &mut O,
+    slots: &mut Vec<Slot>,
+    rounds: u64,
+) -> Result<(), OpenError>
+    requires rests { Rests reactor.old.core }
+    requires owned { Owned slots.old.items (tags reactor.old.core.sources) }
+    requires stands { AllOpen slots.old.items }
+    requires few { length slots.old.items < 2 ^ 32 }
+    ensures went { OnOk result (GoesRounds rounds (O.events outside.old) (O.events outside.new) reactor.old.core reactor.new.core slots.old.items slots.new.items) }
+    ensures rests { OnOk result (Rests reactor.new.core) }
+    ensures owned { Owned slots.new.items (tags reactor.new.core.sources) }
+    ensures len { length slots.new.items ≡ length slots.old.items }
+    ensures refused { Refuses result (O.events outside.old) (O.events outside.new) reactor.old.core reactor.new.core }
+    ensures stuck { Stuck result rounds (O.events outside.old) (O.events outside.new) reactor.old.core reactor.new.core slots.old.items slots.new.items }
+    ensures cause { OpenCounted result (O.poller_faults outside.old) (O.poller_faults outside.new) }
+    ensures origin { O.origin outside.new ≡ O.origin outside.old }
+    ensures reports { reactor.new.events ≡ reactor.old.events }
+{
+    let mut done = 0;
+    while done < rounds && !reactor.is_idle() {
+        go_round(alloc, reactor, outside, slots)?;
+        done += 1;
+    }
+    Ok(())
+}

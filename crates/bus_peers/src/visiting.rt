@@ -1,0 +1,329 @@
+//! The visits of a session: it dials, is registered, and asks its wire until it has ended or has to wait.
+
+ghost use Rattle.std.specs.Prelude.{◌≡◌, ◌<◌, ℕ, List, [], ◌∷◌, ◌++◌, map, Option, Some, None, true, false, IfOk, OnOk, OnErr, if◌then◌else◌};
+ghost use Rattle.react_core.specs.Told.{told};
+ghost use Rattle.react_core.specs.declared.outside.Event.{Event};
+ghost use Rattle.bus_opening.specs.Talk.{Said};
+ghost use Rattle.bus_opening.specs.Openings.{StandsIn};
+ghost use Rattle.bus_script.specs.declared.ended.Ending.TheVariants as ending;
+ghost use Rattle.bus_peers.specs.Dialled.{conversation};
+ghost use Rattle.bus_peers.specs.Registry.{held_at};
+ghost use Rattle.bus_peers.specs.Sessions.{is_built};
+ghost use Rattle.bus_peers.specs.Shown.{Rests, shown, tags, without_tag, has_wire};
+ghost use Rattle.bus_peers.specs.Visited.{DialTold, ending_of, VisitCounted, Keeps, Holds, Readied, Turns, may_ask, OnAgain, last_turn, Stays, Registers, FirstVisits, FirstTags};
+ghost use Rattle.bus_peers.specs.declared.visiting.Turn.TheVariants as turn;
+ghost use Rattle.bus_peers.specs.Registry.{Held};
+
+use crate::open::OpenError;
+use crate::session::{Party, Session};
+use bus_address::plain_path;
+use bus_opening::{Client, Handshake, Step, Verdict};
+use bus_script::{Ended, Ending};
+use futures::task::Poll;
+use react_core::outside::{Bytes, Dialer, Fault, Opened, OutOfMemory, Registrar, Wakes, Wire};
+use react_core::reactor::{Dir, Reactor, insertion_changes_one_key, removal_undoes_insertion};
+use std::alloc::{AllocError, Global};
+
+/// How a turn of a visit ends.
+#[derive(Clone, Copy)]
+pub(crate) enum Turn {
+    /// The session has ended.
+    Over(Ending),
+    /// The wire wasn't ready in a direction that was reported: it is asked again.
+    Again,
+    /// The wire isn't ready, and its direction waits.
+    Asleep,
+}
+
+/// A session that sleeps: its key in the reactor, and its conversation.
+#[derive(Drop)]
+pub(crate) struct Sleeper {
+    pub(crate) key: usize,
+    pub(crate) client: Client,
+}
+
+/// Where a session stands between its visits.
+#[derive(Drop)]
+pub(crate) enum Slot {
+    Ended(Ended),
+    Asleep(Sleeper),
+    /// Its visit was refused, and so is the whole call.
+    Refused,
+}
+
+/// Dials for a session. None where the dialling failed.
+fn dial<D: Dialer>(
+    dialer: &mut D,
+    wire: u32,
+    session: &Session,
+) -> Result<Option<Opened>, OutOfMemory>
+    requires built { is_built session.now ≡ true }
+    ensures told { DialTold session.now wire result (D.events dialer.old) (D.events dialer.new) }
+    ensures origin { D.origin dialer.new ≡ D.origin dialer.old }
+    ensures poller { D.poller_faults dialer.new ≡ D.poller_faults dialer.old }
+{
+    match &session.party {
+        Party::Client { address, .. } => match plain_path(address.as_str()) {
+            Some(path) => match dialer.dial_unix(wire, path) {
+                Ok(opened) => Ok(Some(opened)),
+                Err(Fault::Failed) => Ok(None),
+                Err(Fault::OutOfMemory) => Err(OutOfMemory),
+            },
+            None => unreachable!(),
+        },
+        Party::Server(_) => unreachable!(),
+    }
+}
+
+/// The opening of a session over a wire that was just opened.
+fn client_of(alloc: Global, session: &Session, passes: bool) -> Result<Client, OutOfMemory>
+    requires built { is_built session.now ≡ true }
+    ensures stands { IfOk result (λ c. (talk : List (List ℕ) → Said) × (conversation session.now.party passes ≡ Some talk) × StandsIn talk [] c) }
+    ensures written { IfOk result (λ c. c.written ≡ []) }
+    ensures open { IfOk result (λ c. c.ended ≡ false) }
+{
+    match &session.party {
+        Party::Client { config, .. } => Client::new(alloc, config, None, passes, false, &[]),
+        Party::Server(_) => unreachable!(),
+    }
+}
+
+/// The ending that a verdict is.
+fn ending_of(verdict: Verdict) -> Ending
+    ensures { result ≡ ending_of verdict }
+{
+    match verdict {
+        Verdict::Authenticated(settled) => Ending::Open {
+            guid: settled.guid,
+            cap_unix_fd: settled.cap_unix_fd,
+        },
+        Verdict::Handshake => Ending::Handshake,
+        Verdict::Io => Ending::Io,
+        Verdict::LineTooLong => Ending::LineTooLong,
+        Verdict::TooManyCommands => Ending::TooManyCommands,
+    }
+}
+
+/// A copy of these bytes.
+fn copied(alloc: Global, bytes: &[u8]) -> Result<Bytes, AllocError>
+    ensures { IfOk result (λ b. b ≡ bytes.now) }
+{
+    Ok(Bytes::from_vec(Vec::from_slice(alloc, bytes)?))
+}
+
+/// What a conversation came to that stands there.
+pub(crate) fn ended_of(
+    alloc: Global,
+    wire: u32,
+    ending: Ending,
+    client: &Client,
+) -> Result<Ended, AllocError>
+    ensures value { IfOk result (λ e. e ≡ record { ending = ending; written = client.now.written; leftover = client.now.rest; wire = wire; moment = None }) }
+{
+    Ok(Ended {
+        ending,
+        written: copied(alloc, client.written())?,
+        leftover: copied(alloc, client.leftover())?,
+        wire,
+        moment: None,
+    })
+}
+
+/// What a session comes to whose dialling failed.
+fn unconnected(alloc: Global, wire: u32) -> Ended
+    ensures value { result ≡ record { ending = ending.Connection; written = []; leftover = []; wire = wire; moment = None } }
+{
+    Ended {
+        ending: Ending::Connection,
+        written: Bytes::from_vec(Vec::new(alloc)),
+        leftover: Bytes::from_vec(Vec::new(alloc)),
+        wire,
+        moment: None,
+    }
+}
+
+/// Notes that a wire isn't ready: whether the direction was reported, so that it is to be asked again.
+fn ready<R: Registrar, W: Wakes>(
+    reactor: &mut Reactor,
+    registrar: &mut R,
+    wakes: &mut W,
+    wire: u32,
+    key: usize,
+    dir: Dir,
+) -> Result<bool, OpenError>
+    requires holds { Holds reactor.old.core key wire }
+    requires rests { Rests reactor.old.core }
+    ensures readied { IfOk result (λ again. (h : Held) × Readied wire key dir (R.events registrar.old) (R.events registrar.new) reactor.old.core reactor.new.core again h) }
+    ensures refused { OnErr result (Keeps (tags reactor.old.core.sources) (R.events registrar.old) (R.events registrar.new) reactor.old.core reactor.new.core) }
+    ensures cause { VisitCounted result (R.poller_faults registrar.old) (R.poller_faults registrar.new) }
+    ensures origin { R.origin registrar.new ≡ R.origin registrar.old }
+    ensures reports { reactor.new.events ≡ reactor.old.events }
+{
+    reactor.counters_fit();
+    match reactor.poll_ready(registrar, wakes, key, dir, u64::from(wire))? {
+        Poll::Ready(()) => Ok(true),
+        Poll::Pending => Ok(false),
+    }
+}
+
+/// Goes on where the direction was reported, else the session sleeps.
+fn turn_of(again: bool) -> Turn
+    ensures { result ≡ (if again then turn.Again else turn.Asleep) }
+{
+    if again { Turn::Again } else { Turn::Asleep }
+}
+
+/// Asks the wire until the conversation ends or the wire isn't ready, which is noted.
+fn take_turn<O: Wire + Registrar, W: Wakes>(
+    alloc: Global,
+    reactor: &mut Reactor,
+    outside: &mut O,
+    wakes: &mut W,
+    wire: u32,
+    key: usize,
+    client: &mut Client,
+) -> Result<Turn, OpenError>
+    requires holds { Holds reactor.old.core key wire }
+    requires rests { Rests reactor.old.core }
+    requires open { client.old.ended ≡ false }
+    ensures turned { IfOk result (λ turn. Turns wire key (O.events outside.old) (O.events outside.new) reactor.old.core reactor.new.core client.old client.new turn) }
+    ensures onward { IfOk result (OnAgain (may_ask (held_at (map shown reactor.new.core.sources) key)) (may_ask (held_at (map shown reactor.old.core.sources) key))) }
+    ensures refused { OnErr result (Keeps (tags reactor.old.core.sources) (O.events outside.old) (O.events outside.new) reactor.old.core reactor.new.core) }
+    ensures cause { VisitCounted result (O.poller_faults outside.old) (O.poller_faults outside.new) }
+    ensures origin { O.origin outside.new ≡ O.origin outside.old }
+    ensures reports { reactor.new.events ≡ reactor.old.events }
+{
+    match client.poll(alloc, outside, wire) {
+        Step::Done(verdict) => Ok(Turn::Over(ending_of(verdict))),
+        Step::WantRead => {
+            let again = ready(reactor, outside, wakes, wire, key, Dir::Read)?;
+            Ok(turn_of(again))
+        }
+        Step::WantWrite => {
+            let again = ready(reactor, outside, wakes, wire, key, Dir::Write)?;
+            Ok(turn_of(again))
+        }
+        Step::OutOfMemory => Err(OpenError::OutOfMemory),
+    }
+}
+
+/// Goes on with a conversation until it has ended or the session sleeps. None where it sleeps.
+fn resume<O: Wire + Registrar, W: Wakes>(
+    alloc: Global,
+    reactor: &mut Reactor,
+    outside: &mut O,
+    wakes: &mut W,
+    wire: u32,
+    key: usize,
+    client: &mut Client,
+) -> Result<Option<Ending>, OpenError>
+    requires holds { Holds reactor.old.core key wire }
+    requires rests { Rests reactor.old.core }
+    requires open { client.old.ended ≡ false }
+    ensures resumed { IfOk result (λ r. Turns wire key (O.events outside.old) (O.events outside.new) reactor.old.core reactor.new.core client.old client.new (last_turn r)) }
+    ensures refused { OnErr result (Keeps (tags reactor.old.core.sources) (O.events outside.old) (O.events outside.new) reactor.old.core reactor.new.core) }
+    ensures cause { VisitCounted result (O.poller_faults outside.old) (O.poller_faults outside.new) }
+    ensures origin { O.origin outside.new ≡ O.origin outside.old }
+    ensures reports { reactor.new.events ≡ reactor.old.events }
+{
+    loop {
+        match take_turn(alloc, reactor, outside, wakes, wire, key, client)? {
+            Turn::Over(ending) => return Ok(Some(ending)),
+            Turn::Asleep => return Ok(None),
+            Turn::Again => {}
+        }
+    }
+}
+
+/// A visit over a registered wire. Where the session has ended, or the visit is refused, its source is taken out.
+pub(crate) fn visit<O: Wire + Registrar, W: Wakes>(
+    alloc: Global,
+    reactor: &mut Reactor,
+    outside: &mut O,
+    wakes: &mut W,
+    wire: u32,
+    sleeper: Sleeper,
+) -> Result<Slot, OpenError>
+    requires holds { Holds reactor.old.core sleeper.key wire }
+    requires rests { Rests reactor.old.core }
+    requires open { sleeper.client.ended ≡ false }
+    ensures visited { IfOk result (λ slot. Stays wire sleeper.key (O.events outside.old) (O.events outside.new) reactor.old.core reactor.new.core sleeper.client slot) }
+    ensures refused { OnErr result (Keeps (without_tag (tags reactor.old.core.sources) sleeper.key) (O.events outside.old) (O.events outside.new) reactor.old.core reactor.new.core) }
+    ensures cause { VisitCounted result (O.poller_faults outside.old) (O.poller_faults outside.new) }
+    ensures origin { O.origin outside.new ≡ O.origin outside.old }
+    ensures reports { reactor.new.events ≡ reactor.old.events }
+{
+    let Sleeper { key, mut client } = sleeper;
+    match resume(alloc, reactor, outside, wakes, wire, key, &mut client) {
+        Ok(None) => Ok(Slot::Asleep(Sleeper { key, client })),
+        Ok(Some(ending)) => {
+            reactor.remove_io(outside, key)?;
+            Ok(Slot::Ended(ended_of(alloc, wire, ending, &client)?))
+        }
+        Err(refusal) => {
+            let _ = reactor.remove_io(outside, key);
+            Err(refusal)
+        }
+    }
+}
+
+/// The first visit of a session whose dialling opened a wire.
+fn visit_opened<O: Wire + Registrar, W: Wakes>(
+    alloc: Global,
+    reactor: &mut Reactor,
+    outside: &mut O,
+    wakes: &mut W,
+    wire: u32,
+    session: &Session,
+    passes: bool,
+) -> Result<Slot, OpenError>
+    requires built { is_built session.now ≡ true }
+    requires rests { Rests reactor.old.core }
+    requires new { has_wire wire (tags reactor.old.core.sources) ≡ false }
+    ensures visited { IfOk result (λ slot. Registers session.now wire passes (O.events outside.old) (O.events outside.new) reactor.old.core reactor.new.core slot) }
+    ensures tags { IfOk result (FirstTags wire (tags reactor.old.core.sources) (tags reactor.new.core.sources)) }
+    ensures refused { OnErr result (Keeps (tags reactor.old.core.sources) (O.events outside.old) (O.events outside.new) reactor.old.core reactor.new.core) }
+    ensures cause { VisitCounted result (O.poller_faults outside.old) (O.poller_faults outside.new) }
+    ensures origin { O.origin outside.new ≡ O.origin outside.old }
+    ensures reports { reactor.new.events ≡ reactor.old.events }
+{
+    insertion_changes_one_key();
+    removal_undoes_insertion();
+    let client = client_of(alloc, session, passes)?;
+    let key = reactor.insert_io(alloc, outside, wire)?;
+    visit(
+        alloc,
+        reactor,
+        outside,
+        wakes,
+        wire,
+        Sleeper { key, client },
+    )
+}
+
+/// The first visit of a session.
+pub(crate) fn first_visit<O: Wire + Dialer + Registrar, W: Wakes>(
+    alloc: Global,
+    reactor: &mut Reactor,
+    outside: &mut O,
+    wakes: &mut W,
+    wire: u32,
+    session: &Session,
+) -> Result<Slot, OpenError>
+    requires built { is_built session.now ≡ true }
+    requires rests { Rests reactor.old.core }
+    requires new { has_wire wire (tags reactor.old.core.sources) ≡ false }
+    ensures visited { IfOk result (λ slot. FirstVisits session.now wire (O.events outside.old) (O.events outside.new) reactor.old.core reactor.new.core slot) }
+    ensures tags { IfOk result (FirstTags wire (tags reactor.old.core.sources) (tags reactor.new.core.sources)) }
+    ensures refused { OnErr result (Keeps (tags reactor.old.core.sources) (O.events outside.old) (O.events outside.new) reactor.old.core reactor.new.core) }
+    ensures cause { VisitCounted result (O.poller_faults outside.old) (O.poller_faults outside.new) }
+    ensures origin { O.origin outside.new ≡ O.origin outside.old }
+    ensures reports { reactor.new.events ≡ reactor.old.events }
+{
+    match dial(outside, wire, session)? {
+        Some(opened) => {
+            visit_opened(alloc, reactor, outside, wakes, wire, session, opened.passes)
+        }
+        None => Ok(Slot::Ended(unconnected(alloc, wire))),
+    }
+}

@@ -1,0 +1,374 @@
+//! One event after another.
+
+ghost use Rattle.std.specs.Prelude.{◌≡◌, ◌++◌, ℕ, true, List, [], Some, IfOk};
+ghost use Rattle.std.specs.Option.{option_map, option_and_then};
+ghost use Rattle.std.specs.Str.{bytes_eq};
+ghost use Rattle.react_core.specs.declared.outside.Question.TheVariants as question;
+ghost use Rattle.bus_peers.specs.declared.session.Party.TheVariants as party;
+ghost use Rattle.bus_peers.specs.Alone.{over, dials, silence, asked_next, concluded, after_recv, after_send, after_asked, after, goes_through, rests, outcome_of};
+ghost use Rattle.bus_plain.specs.Views.{said_by, as_ask};
+ghost use Rattle.bus_script.specs.declared.ended.Ending.TheVariants as ending;
+ghost use Rattle.bus_plain.specs.Goings.{ending_of, as_talked, as_outcome, as_progress};
+
+use crate::asking::{Asked, ask, left};
+use bus_opening::ClientConfig;
+use bus_peers::Ending;
+use react_core::outside::{
+    Bytes, DialAnswer, Event, OutOfMemory, Question, RecvAnswer, SendAnswer,
+};
+use std::alloc::{AllocError, Global};
+
+/// What a session comes to.
+#[derive(Debug, Drop)]
+pub struct Outcome {
+    pub ending: Ending,
+    /// What the wire took.
+    pub written: Bytes,
+    /// What came and was not looked at.
+    pub leftover: Bytes,
+}
+
+/// What came over a wire, what it took, and whether its last answer was that it is not ready.
+#[derive(Drop)]
+pub(crate) struct Talked {
+    got: Bytes,
+    written: Bytes,
+    paused: bool,
+}
+
+/// How far a session has come.
+#[derive(Drop)]
+pub(crate) enum Progress {
+    /// The socket at this path is to be dialled.
+    Dials(Bytes),
+    /// The conversation is had over a wire that passes descriptors or not.
+    Converses(bool, Talked),
+    /// An answer ended it.
+    Over(Outcome),
+}
+
+/// A client: the address that it dials, and its configuration.
+#[derive(Clone, Copy)]
+pub(crate) struct Client<'a> {
+    pub(crate) address: &'a str,
+    pub(crate) config: &'a ClientConfig,
+}
+
+// The first bytes and the others behind them.
+fn joined(alloc: Global, first: &[u8], others: &[u8]) -> Result<Bytes, AllocError>
+    ensures value { IfOk result (λ b. b ≡ first.now ++ others.now) }
+{
+    let mut bytes = Vec::from_slice(alloc, first)?;
+    bytes.extend_from_slice(others)?;
+    Ok(Bytes::from_vec(bytes))
+}
+
+// What is asked next.
+fn asked_next(
+    alloc: Global,
+    config: &ClientConfig,
+    passes: bool,
+    talked: &Talked,
+) -> Result<Asked, OutOfMemory>
+    ensures value { IfOk result (λ a. as_ask a ≡ asked_next (said_by config.now passes) (as_talked talked.now)) }
+{
+    let got = talked.got.as_slice();
+    let taken = talked.written.as_slice().len();
+    ask(alloc, config, passes, got, taken)
+}
+
+// The conversation ends so.
+fn concluded(
+    alloc: Global,
+    config: &ClientConfig,
+    passes: bool,
+    talked: Talked,
+    ending: Ending,
+) -> Result<Outcome, OutOfMemory>
+    ensures value { IfOk result (λ o. as_outcome o ≡ concluded (said_by config.now passes) (as_talked talked) ending) }
+{
+    let got = talked.got.as_slice();
+    let taken = talked.written.as_slice().len();
+    let leftover = left(alloc, config, passes, got, taken)?;
+    Ok(Outcome {
+        ending,
+        written: talked.written,
+        leftover,
+    })
+}
+
+// The same, as the end of a session.
+fn ends_with(
+    alloc: Global,
+    config: &ClientConfig,
+    passes: bool,
+    talked: Talked,
+    ending: Ending,
+) -> Result<Option<Progress>, OutOfMemory>
+    ensures value { IfOk result (λ p. option_map (as_progress config.now) p ≡ Some (over (concluded (said_by config.now passes) (as_talked talked) ending))) }
+{
+    let outcome = concluded(alloc, config, passes, talked, ending)?;
+    Ok(Some(Progress::Over(outcome)))
+}
+
+// A wire that is not ready.
+fn pause(mut talked: Talked) -> Talked
+    ensures value { as_talked result ≡ record (as_talked talked) { paused = true } }
+{
+    talked.paused = true;
+    talked
+}
+
+// After a read: it gives 1 to 1024 bytes, or none where the peer closed its side.
+fn after_recv(
+    alloc: Global,
+    config: &ClientConfig,
+    passes: bool,
+    talked: Talked,
+    answer: &RecvAnswer,
+) -> Result<Option<Progress>, OutOfMemory>
+    ensures value { IfOk result (λ p. option_map (as_progress config.now) p ≡ after_recv (said_by config.now passes) (as_talked talked) answer.now) }
+{
+    let bytes = match answer {
+        RecvAnswer::Got(bytes) => bytes.as_slice(),
+        RecvAnswer::End => return ends_with(alloc, config, passes, talked, Ending::Handshake),
+        RecvAnswer::NotReady => return Ok(Some(Progress::Converses(passes, pause(talked)))),
+        RecvAnswer::Failed => return ends_with(alloc, config, passes, talked, Ending::Io),
+    };
+    if bytes.is_empty() || bytes.len() > 1024 {
+        return Ok(None);
+    }
+    let got = joined(alloc, talked.got.as_slice(), bytes)?;
+    Ok(Some(Progress::Converses(
+        passes,
+        Talked {
+            got,
+            written: talked.written,
+            paused: false,
+        },
+    )))
+}
+
+// After a send: the wire takes at least one byte and at most the piece.
+fn after_send(
+    alloc: Global,
+    config: &ClientConfig,
+    passes: bool,
+    talked: Talked,
+    piece: &[u8],
+    answer: &SendAnswer,
+) -> Result<Option<Progress>, OutOfMemory>
+    ensures value { IfOk result (λ p. option_map (as_progress config.now) p ≡ after_send (said_by config.now passes) (as_talked talked) piece.now answer.now) }
+{
+    let count = match answer {
+        SendAnswer::Took(count) => *count,
+        SendAnswer::NotReady => return Ok(Some(Progress::Converses(passes, pause(talked)))),
+        SendAnswer::Failed => return ends_with(alloc, config, passes, talked, Ending::Io),
+    };
+    if count == 0 || count > piece.len() {
+        return Ok(None);
+    }
+    let (taken, _) = piece.split_at(count);
+    let written = joined(alloc, talked.written.as_slice(), taken)?;
+    Ok(Some(Progress::Converses(
+        passes,
+        Talked {
+            got: talked.got,
+            written,
+            paused: false,
+        },
+    )))
+}
+
+fn is_same(a: &[u8], b: &[u8]) -> bool
+    ensures value { result ≡ bytes_eq a.now b.now }
+{
+    a == b
+}
+
+// An event is the one that is asked: a read of 1024 bytes, or a send of the rest of the piece.
+fn after_asked(
+    alloc: Global,
+    config: &ClientConfig,
+    passes: bool,
+    talked: Talked,
+    asked: Asked,
+    event: &Event,
+) -> Result<Option<Progress>, OutOfMemory>
+    ensures value { IfOk result (λ p. option_map (as_progress config.now) p ≡ after_asked (said_by config.now passes) (as_talked talked) (as_ask asked) event.now) }
+{
+    match (asked, event) {
+        (
+            Asked::Recv,
+            Event::Recv {
+                asked: size,
+                answer,
+                ..
+            },
+        ) => {
+            if *size != 1024 {
+                return Ok(None);
+            }
+            after_recv(alloc, config, passes, talked, answer)
+        }
+        (
+            Asked::Send(piece),
+            Event::Send {
+                offered,
+                answer,
+                ..
+            },
+        ) => {
+            if !is_same(offered.as_slice(), piece.as_slice()) {
+                return Ok(None);
+            }
+            after_send(alloc, config, passes, talked, piece.as_slice(), answer)
+        }
+        _ => Ok(None),
+    }
+}
+
+// The end of a session whose socket was not found.
+fn unconnected(alloc: Global) -> Outcome
+    ensures value { as_outcome result ≡ record { ending = ending.Connection; written = []; leftover = [] } }
+{
+    Outcome {
+        ending: Ending::Connection,
+        written: Bytes::from_vec(Vec::new(alloc)),
+        leftover: Bytes::from_vec(Vec::new(alloc)),
+    }
+}
+
+// A conversation that begins.
+fn silence(alloc: Global) -> Talked
+    ensures value { as_talked result ≡ silence }
+{
+    Talked {
+        got: Bytes::from_vec(Vec::new(alloc)),
+        written: Bytes::from_vec(Vec::new(alloc)),
+        paused: false,
+    }
+}
+
+// An event is the answer to the dialling of the path.
+fn after_dial(alloc: Global, client: Client<'_>, path: &[u8], event: &Event) -> Option<Progress>
+    ensures value { option_map (as_progress client.entry.config.now) result ≡ after (party.Client client.entry.address.now client.entry.config.now) (dials (question.Unix path.now)) event.now }
+{
+    let Event::Dial {
+        question: Question::Unix(dialled),
+        answer,
+        ..
+    } = event
+    else {
+        return None;
+    };
+    if !is_same(path, dialled.as_slice()) {
+        return None;
+    }
+    match answer {
+        DialAnswer::Opened { passes } => Some(Progress::Converses(*passes, silence(alloc))),
+        DialAnswer::Failed => Some(Progress::Over(unconnected(alloc))),
+        _ => None,
+    }
+}
+
+// The session after one more event of its own, if that is the one that comes next.
+fn after(
+    alloc: Global,
+    client: Client<'_>,
+    progress: Progress,
+    event: &Event,
+) -> Result<Option<Progress>, OutOfMemory>
+    ensures value { IfOk result (λ p. option_map (as_progress client.entry.config.now) p ≡ after (party.Client client.entry.address.now client.entry.config.now) (as_progress client.entry.config.now progress) event.now) }
+{
+    match progress {
+        Progress::Dials(path) => Ok(after_dial(alloc, client, path.as_slice(), event)),
+        Progress::Converses(passes, talked) => {
+            let asked = asked_next(alloc, client.config, passes, &talked)?;
+            after_asked(alloc, client.config, passes, talked, asked, event)
+        }
+        Progress::Over(_) => Ok(None),
+    }
+}
+
+// The same, where the events before were those that came next.
+fn after_if(
+    alloc: Global,
+    client: Client<'_>,
+    progress: Option<Progress>,
+    event: &Event,
+) -> Result<Option<Progress>, OutOfMemory>
+    ensures value { IfOk result (λ p. option_map (as_progress client.entry.config.now) p ≡ option_and_then (λ reached. after (party.Client client.entry.address.now client.entry.config.now) reached event.now) (option_map (as_progress client.entry.config.now) progress)) }
+{
+    match progress {
+        Some(reached) => after(alloc, client, reached, event),
+        None => Ok(None),
+    }
+}
+
+/// The session after all of these events.
+pub(crate) fn goes_through(
+    alloc: Global,
+    client: Client<'_>,
+    progress: Option<Progress>,
+    events: &[Event],
+) -> Result<Option<Progress>, OutOfMemory>
+    ensures value { IfOk result (λ p. option_map (as_progress client.entry.config.now) p ≡ goes_through (party.Client client.entry.address.now client.entry.config.now) (option_map (as_progress client.entry.config.now) progress) events.now) }
+{
+    let mut progress = progress;
+    for event in events {
+        progress = after_if(alloc, client, progress, event)?;
+    }
+    Ok(progress)
+}
+
+// How a conversation ends that is asked nothing more, or that stopped at an answer that the wire is not ready.
+fn ending_of(asked: &Asked, paused: bool) -> Option<Ending>
+    ensures value { result ≡ ending_of (as_ask asked.now) paused }
+{
+    match asked {
+        Asked::Opens(guid, flag) => Some(Ending::Open {
+            guid: *guid,
+            cap_unix_fd: *flag,
+        }),
+        Asked::Handshake => Some(Ending::Handshake),
+        Asked::TooManyCommands => Some(Ending::TooManyCommands),
+        Asked::LineTooLong => Some(Ending::LineTooLong),
+        Asked::Send(_) | Asked::Recv => paused.then_some(Ending::Waiting),
+    }
+}
+
+// Where a conversation stands that is asked nothing more, or that stopped so.
+fn rests(
+    alloc: Global,
+    config: &ClientConfig,
+    passes: bool,
+    talked: Talked,
+    asked: &Asked,
+) -> Result<Option<Outcome>, OutOfMemory>
+    ensures value { IfOk result (λ o. option_map as_outcome o ≡ rests (said_by config.now passes) (as_talked talked) (as_ask asked.now)) }
+{
+    let Some(ending) = ending_of(asked, talked.paused) else {
+        return Ok(None);
+    };
+    let outcome = concluded(alloc, config, passes, talked, ending)?;
+    Ok(Some(outcome))
+}
+
+/// The outcome, where the session has come to one.
+pub(crate) fn outcome_of(
+    alloc: Global,
+    config: &ClientConfig,
+    progress: Progress,
+) -> Result<Option<Outcome>, OutOfMemory>
+    ensures value { IfOk result (λ o. option_map as_outcome o ≡ outcome_of (as_progress config.now progress)) }
+{
+    match progress {
+        Progress::Dials(_) => Ok(None),
+        Progress::Converses(passes, talked) => {
+            let asked = asked_next(alloc, config, passes, &talked)?;
+            rests(alloc, config, passes, talked, &asked)
+        }
+        Progress::Over(outcome) => Ok(Some(outcome)),
+    }
+}

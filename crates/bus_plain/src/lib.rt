@@ -1,0 +1,19 @@
+//! What a session comes to by its own events alone, worked out as it is defined.
+//!
+//! This is the slow way: nothing is kept from one event to the next but the bytes that came and those that were taken,
+//! and each question is looked for anew from the first line on. It is there to be compared with.
+#![tactic(auto)]
+
+mod asking;
+mod going;
+mod lines;
+mod reading;
+mod sessions;
+mod talking;
+
+pub use asking::{Asked, ask};
+pub use going::Outcome;
+pub use sessions::alone;
+
+#[cfg(test)]
+mod tests;
