@@ -1,0 +1,44 @@
+"""Plays random scripts by the program and by a plain reading of the script's rules, which shares nothing with it, and prints each
+script on which the two differ. It shows whether the definitions mean what the formats say. No test, and no gate.
+
+Usage: python3 bench/compare [PROGRAM [COUNT [SEED]]]; without a program, crates/bus_open/out/bus_open, which `rt run` leaves there."""
+import collections
+import pathlib
+import random
+import subprocess
+import sys
+
+import playing
+import reading
+import scripts
+
+
+def expected(data):
+    try:
+        return playing.play(reading.read(data))
+    except reading.Refused as refusal:
+        return 2, f"refused {refusal.line} {refusal.reason}\n"
+
+
+def main():
+    top = pathlib.Path(__file__).resolve().parent.parent.parent
+    program = sys.argv[1] if len(sys.argv) > 1 else top / "crates/bus_open/out/bus_open"
+    count = int(sys.argv[2]) if len(sys.argv) > 2 else 1000
+    seed = int(sys.argv[3]) if len(sys.argv) > 3 else 1
+    statuses = collections.Counter()
+    differing = 0
+    for number in range(count):
+        data = scripts.script(random.Random(f"{seed}:{number}"))
+        run = subprocess.run([program, "play"], input=data, stdout=subprocess.PIPE)
+        status, text = expected(data)
+        statuses[status] += 1
+        if (run.returncode, run.stdout) != (status, text.encode()):
+            differing += 1
+            print(f"script {number} of seed {seed}: status {run.returncode} and not {status}\n{data!r}")
+    shares = ", ".join(f"{amount} of status {status}" for status, amount in sorted(statuses.items()))
+    print(f"{count} scripts ({shares}): {differing} differ")
+    sys.exit(1 if differing else 0)
+
+
+if __name__ == "__main__":
+    main()

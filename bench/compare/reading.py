@@ -1,0 +1,159 @@
+"""Reads the text of a script: its lines by one table of forms, and the first refusal."""
+import dataclasses
+import re
+
+MOST_BYTES = 16777216
+PLAIN = "unix:path="
+PLAIN_BYTES = frozenset(b"-0123456789ABCDEFGHIJKLMNOPQRSTUVWXYZabcdefghijklmnopqrstuvwxyz_/.\\*")
+
+NUMBER = "0|[1-9][0-9]*"
+BYTES = r"\.|(?:[0-9a-fA-F]{2})+"
+PEER = r"(?:4-[0-9a-fA-F]{8}|6-[0-9a-fA-F]{32})-(?:0|[1-9][0-9]*)"
+READY = r"k?(?:0|[1-9][0-9]*)(?:rw|r|w)"
+
+# what a line says, and its form; a group's name begins with the bits of its number
+FORMS = [
+    ("rounds", rf"rounds (?P<u64>{NUMBER})"),
+    ("start", rf"start (?P<u64_tick>{NUMBER}) (?P<u64_timer>{NUMBER})"),
+    ("client", rf"client (?P<mech>-|EXTERNAL|ANONYMOUS) (?P<u32>{NUMBER}) (?P<hello>-|{BYTES}) (?P<flatpak>[yn])"
+               rf" (?P<deadline>-|(?P<u64>{NUMBER})) (?P<address>.*)"),
+    ("server", rf"server [0-9a-fA-F]{{32}} (?:EXTERNAL|ANONYMOUS) (?:-|(?P<u32>{NUMBER})) (?:-|(?P<u64>{NUMBER}))"),
+    ("dial open", rf"dial (?P<u32>{NUMBER}) open (?P<flag>[yn])"),
+    ("dial peers", rf"dial (?P<u32>{NUMBER}) peers(?P<peers>(?: {PEER})*)"),
+    ("dial nonce", rf"dial (?P<u32>{NUMBER}) nonce (?:{BYTES})"),
+    ("dial output", rf"dial (?P<u32>{NUMBER}) output [yn] (?:{BYTES})"),
+    ("dial fault", rf"dial (?P<u32>{NUMBER}) fault"),
+    ("recv bytes", rf"recv (?P<u32>{NUMBER}) bytes (?P<bytes>(?:[0-9a-fA-F]{{2}})+)"),
+    ("recv end", rf"recv (?P<u32>{NUMBER}) end"),
+    ("recv again", rf"recv (?P<u32>{NUMBER}) again"),
+    ("recv fault", rf"recv (?P<u32>{NUMBER}) fault"),
+    ("send took", rf"send (?P<u32>{NUMBER}) took (?P<u64>{NUMBER})"),
+    ("send other", rf"send (?P<u32>{NUMBER}) (?:again|fault)"),
+    ("now", rf"now (?P<u64>{NUMBER})"),
+    ("poller", r"(?P<call>add|modify|delete) (?P<answer>ok|fault)"),
+    ("notify", r"notify (?:ok|fault)"),
+    ("wait reports", rf"wait reports(?P<reports>(?: {READY})*)"),
+    ("wait interrupted", r"wait interrupted"),
+    ("wait fault", r"wait fault"),
+]
+COMPILED = [(kind, re.compile(form, re.DOTALL)) for kind, form in FORMS]
+BUILT = {"rounds", "client", "dial open", "dial fault", "recv bytes", "recv end", "recv again", "poller",
+         "wait reports", "wait interrupted", "wait fault"}
+
+
+class Refused(Exception):
+    def __init__(self, line, reason):
+        super().__init__(line, reason)
+        self.line = line
+        self.reason = reason
+
+
+@dataclasses.dataclass
+class Script:
+    rounds: int = 0
+    clients: list = dataclasses.field(default_factory=list)
+    dials: dict = dataclasses.field(default_factory=dict)
+    reads: dict = dataclasses.field(default_factory=dict)
+    poller: dict = dataclasses.field(default_factory=lambda: {"add": [], "modify": [], "delete": []})
+    waits: list = dataclasses.field(default_factory=list)
+
+
+def in_range(groups):
+    bits = {"u32": 32, "u64": 64}
+    return all(text is None or int(text) < 1 << bits[name[:3]] for name, text in groups.items() if name[:3] in bits)
+
+
+def reports_of(text):
+    """The reports of a wait: whether each names a key, the number, and the directions."""
+    found = re.findall(r"(k?)([0-9]+)(rw|r|w)", text)
+    return [(key == "k", int(number), "r" in dirs, "w" in dirs) for key, number, dirs in found]
+
+
+def form_of(line):
+    """What the line says, or None where it has no form."""
+    for kind, form in COMPILED:
+        match = form.fullmatch(line)
+        if match is None:
+            continue
+        groups = match.groupdict()
+        ports = re.findall(r"-([0-9]+)(?= |$)", groups.get("peers") or "")
+        reports = reports_of(groups.get("reports") or "")
+        fits = in_range(groups) and all(int(port) < 65536 for port in ports)
+        fits = fits and all(number < 1 << (64 if key else 32) for key, number, _, _ in reports)
+        return (kind, groups) if fits else None
+    return None
+
+
+def is_built(kind, groups):
+    if kind == "client":
+        path = groups["address"].removeprefix(PLAIN).encode()
+        plain = groups["address"].startswith(PLAIN) and path and all(byte in PLAIN_BYTES for byte in path)
+        return bool(plain) and (groups["mech"], groups["hello"], groups["flatpak"], groups["deadline"]) == ("EXTERNAL", "-", "n", "-")
+    if kind == "dial open":
+        return groups["flag"] == "n"
+    return kind in BUILT
+
+
+def place_of(kind):
+    return {"rounds": 0, "start": 1, "client": 2, "server": 2}.get(kind, 3)
+
+
+def in_order(kind, last):
+    """Whether such a line may come after lines up to this place; last is None before the first."""
+    place = place_of(kind)
+    if last is None:
+        return place == 0
+    return place > last or (place == last and place >= 2)
+
+
+def names_of(kind, groups):
+    """The sessions that an answer names."""
+    if kind.split()[0] in ("dial", "recv", "send"):
+        return [int(groups["u32"])]
+    return [number for key, number, _, _ in reports_of(groups.get("reports") or "") if not key]
+
+
+def add(script, kind, groups):
+    if kind == "rounds":
+        script.rounds = int(groups["u64"])
+    elif kind == "client":
+        script.clients.append((int(groups["u32"]), groups["address"].removeprefix(PLAIN).encode()))
+    elif kind.startswith("dial"):
+        script.dials.setdefault(int(groups["u32"]), []).append(kind == "dial open")
+    elif kind.startswith("recv"):
+        answer = bytes.fromhex(groups["bytes"]) if kind == "recv bytes" else kind.split()[1]
+        script.reads.setdefault(int(groups["u32"]), []).append(answer)
+    elif kind == "poller":
+        script.poller[groups["call"]].append(groups["answer"] == "ok")
+    elif kind == "wait reports":
+        script.waits.append(reports_of(groups["reports"]))
+    else:
+        script.waits.append(kind.split()[1])
+
+
+def read(data):
+    if len(data) > MOST_BYTES:
+        raise Refused(0, "length")
+    try:
+        lines = data.decode("utf-8").split("\n")
+    except UnicodeDecodeError:
+        raise Refused(0, "text") from None
+    script = Script()
+    last = None
+    for number, line in enumerate(lines, 1):
+        if line == "" or line.startswith("#"):
+            continue
+        found = form_of(line)
+        if found is None:
+            raise Refused(number, "form")
+        if not is_built(*found):
+            raise Refused(number, "not-built")
+        if not in_order(found[0], last):
+            raise Refused(number, "order")
+        if any(name >= len(script.clients) for name in names_of(*found)):
+            raise Refused(number, "session")
+        last = place_of(found[0])
+        add(script, *found)
+    if last is None:
+        raise Refused(0, "order")
+    return script
