@@ -1,3 +1,4 @@
+pub mod Fed
 pub mod TextLemmas
 pub mod Named
 pub mod Cases

@@ -7,3 +7,4 @@ pub mod Appending
 pub mod Measures
 pub mod Comparing
 pub mod Order
+pub mod Feeding

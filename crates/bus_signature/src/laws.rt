@@ -1,9 +1,10 @@
 //! What holds of signatures beyond single calls: equality, order, hashes, and reading back what was printed.
 
-ghost use Rattle.std.specs.Prelude.{◌≡◌, ◌↔◌, IsTrue};
+ghost use Rattle.std.specs.Prelude.{◌≡◌, ◌↔◌, IsTrue, fold};
 ghost use Rattle.std.specs.declared.cmp.Ordering.{Ordering};
 ghost use Rattle.bus_signature.specs.declared.signature.Signature.{Signature};
 ghost use Rattle.bus_signature.specs.Grammar.{complete, AreComplete, IsReadable, ReadAs};
+ghost use Rattle.bus_signature.specs.Feeding.{feed};
 ghost use Rattle.bus_signature.specs.Order.{IsSignatureOrder};
 
 use crate::error::Error;
@@ -27,9 +28,12 @@ pub fn order(a: &Signature, b: &Signature) -> Ordering
     a.cmp(b)
 }
 
-/// Feeds two signatures to two hashers: equal signatures take hashers in one state to one state.
+/// Feeds two signatures to two hashers: each its own, the number of its kind and then what is inside. So equal signatures take
+/// hashers in one state to one state.
 pub fn hash_both<H: Hasher>(a: &Signature, b: &Signature, first: &mut H, second: &mut H)
-    ensures { a.now ≡ b.now → first.old ≡ second.old → first.new ≡ second.new }
+    ensures first { first.new ≡ fold H.write first.old (feed a.now) }
+    ensures second { second.new ≡ fold H.write second.old (feed b.now) }
+    ensures alike { a.now ≡ b.now → first.old ≡ second.old → first.new ≡ second.new }
 {
     a.hash(first);
     b.hash(second);
