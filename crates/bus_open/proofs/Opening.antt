@@ -1,5 +1,5 @@
 -- What the answer of `open_all` over a new scene says of a script.
-use Rattle.std.proofs.Common.{◌≡◌, ℕ, ◌≤◌, ◌<◌, ◌+◌, ◌-◌, ◌^◌, ◌⊎◌, inl, inr, List, [], ◌++◌, Result, Ok, Err, refl, sym, ◌∙◌, ap, subst, arith}
+use Rattle.std.proofs.Common.{◌≡◌, ℕ, ◌<◌, ◌⊎◌, inl, inr, List, [], ◌++◌, refl, sym, ◌∙◌, ap, subst, arith}
 use Rattle.react_core.specs.declared.outside.Event.{Event}
 use Rattle.react_core.specs.Core.{Core}
 use Rattle.react_core.specs.Told.{Rose}

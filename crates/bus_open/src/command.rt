@@ -5,7 +5,7 @@ ghost use Rattle.bus_script.specs.Words.{number_of};
 ghost use Rattle.bus_open.specs.Commands.{asked, command, kind_of};
 ghost use Rattle.bus_open.specs.declared.command.Command.TheVariants.{Play};
 
-use bus_script::Reason;
+use bus_script::{Reason, number_below};
 
 /// What the program is asked to do.
 #[derive(Clone, Copy, Debug, PartialEq, Eq)]
@@ -34,8 +34,8 @@ pub enum Kind {
     ErrorName,
 }
 
-/// The greatest count of sessions that `bulk` makes.
-const MOST_SESSIONS: u32 = 10_000;
+/// One more than the greatest count of sessions that `bulk` makes.
+const SESSIONS_LIMIT: u64 = 10_001;
 
 impl Command {
     /// The command that these words name, where they name one.
@@ -102,32 +102,12 @@ fn with_count(name: &str, count: &str) -> Option<Command>
     }
 }
 
-/// A number without a sign and without a zero in front.
-#[tactic(auto, using(bus_script::proofs::Numbers::number_empty, bus_script::proofs::Numbers::number_plus, bus_script::proofs::Numbers::number_zero, bus_script::proofs::Numbers::number_parsed))]
-fn plain_number(word: &str) -> Option<u32>
-    ensures { result ≡ number_of (2 ^ 32) word.now }
-{
-    let bytes = word.as_bytes();
-    if bytes.is_empty() {
-        return None;
-    }
-    if bytes[0] == b'+' {
-        return None;
-    }
-    if bytes[0] == b'0' && bytes.len() != 1 {
-        return None;
-    }
-    word.parse::<u32>().ok()
-}
-
+/// A number without a sign and without a zero in front, below `SESSIONS_LIMIT`.
 fn bulk_count(word: &str) -> Option<u32>
     ensures { result ≡ number_of 10001 word.now }
 {
-    let count = plain_number(word)?;
-    if count > MOST_SESSIONS {
-        return None;
-    }
-    Some(count)
+    let count = number_below(word, SESSIONS_LIMIT)?;
+    Some(count as u32)
 }
 
 fn with_text(name: &str, kind: &str, _text: &str) -> Option<Command>

@@ -1,21 +1,19 @@
 -- What the lines of a script keep while they are read.
-use Rattle.std.proofs.Common.{◌≡◌, ℕ, ◌+◌, ◌≤◌, Bool, true, false, not, cond, List, [], ◌∷◌, ◌++◌, length, fold, Option, Some, None, Result, Ok, Err, refl, sym, subst, ap, arith, ◌⊎◌, inl, inr, nat_lt, ◌||◌}
+use Rattle.std.proofs.Common.{◌≡◌, ℕ, ◌+◌, ◌≤◌, Bool, true, false, not, cond, List, [], ◌∷◌, ◌++◌, length, fold, Some, Result, Ok, Err, refl, subst, inl, inr, nat_lt, ◌||◌}
 use Rattle.std.specs.Option.{is_none, is_some}
-use Rattle.std.specs.List.{AllPass, list_all}
-use Rattle.std.specs.Str.{is_utf8}
+use Rattle.std.specs.List.{AllPass}
 use Rattle.std.specs.Result.{IfOk}
 use Rattle.std.proofs.lemmas.List.Elements.{All-append}
 use Rattle.std.proofs.lemmas.List.Sums.{AllPass-from_list_all}
 use borrow.Author.Tests.{ltb-false}
 use Rattle.bus_script.specs.Words.{◌>>=◌, words_of}
 use Rattle.bus_script.specs.Forms.{line_of, is_built}
-use Rattle.bus_script.specs.Script.{Script, Refused, add, read_line, read_lines, at_line, is_skipped, built, names_sessions, has_more, later, latest, lines_in, whole, script, empty}
+use Rattle.bus_script.specs.Script.{Script, add, read_line, read_lines, at_line, built, names_sessions, has_more, later, latest, lines_in, script, empty}
 use Rattle.bus_script.specs.Reading.{GivesAt}
 use Rattle.bus_script.specs.Laws.{HasBuiltSessions, HasBuiltAnswers, NamesItsSessions, IsForward}
 use Rattle.bus_script.specs.declared.reading.ScriptError.{ScriptError}
 use Rattle.bus_script.specs.declared.line.Reason.{Reason}
 use Rattle.bus_script.specs.declared.line.Reason.TheVariants.{NotBuilt, Order, Session, Clock}
-use Rattle.bus_script.specs.declared.line.SessionLine.{SessionLine}
 use Rattle.bus_script.specs.declared.line.Answer.{Answer}
 use Rattle.bus_script.specs.declared.line.Answer.TheVariants as answers
 use Rattle.bus_script.specs.declared.line.Line.{Line}

@@ -1,23 +1,20 @@
 -- A script that is read has its lines in order.
-use Rattle.std.proofs.Common.{◌≡◌, ℕ, zero, suc, ◌+◌, ◌≤◌, Bool, true, false, not, cond, List, [], ◌∷◌, ◌++◌, map, length, Option, Some, None, Result, Ok, Err, refl, sym, ◌∙◌, subst, ap, arith, append_assoc, ◌⊎◌, inl, inr, nat_lt, ◌||◌}
+use Rattle.std.proofs.Common.{◌≡◌, ℕ, ◌+◌, ◌≤◌, Bool, true, false, not, cond, List, [], ◌∷◌, ◌++◌, length, Option, Some, None, Result, Ok, Err, refl, sym, ◌∙◌, subst, ap, arith, append_assoc, ◌⊎◌, inl, inr, nat_lt, ◌||◌}
 use Rattle.std.specs.Option.{is_none, is_some}
 use Rattle.std.proofs.lemmas.List.{map-append, append-nil}
 use borrow.Author.Tests.{ltb-false}
 use Rattle.bus_script.specs.Words.{◌>>=◌, words_of}
 use Rattle.bus_script.specs.Forms.{line_of}
-use Rattle.bus_script.specs.Script.{Script, Refused, add, read_line, read_lines, at_line, is_skipped, built, names_sessions, has_more, later, latest, lines_in, whole, script, empty}
+use Rattle.bus_script.specs.Script.{Script, add, read_line, read_lines, at_line, is_skipped, built, names_sessions, has_more, later, latest, lines_in, whole, script, empty}
 use Rattle.bus_script.specs.Reading.{GivesAt}
 use Rattle.bus_script.specs.declared.reading.ScriptError.{ScriptError}
 use Rattle.std.specs.Str.{is_utf8}
 use Rattle.std.specs.Result.{IfOk}
 use Rattle.bus_script.specs.declared.line.Reason.{Reason}
 use Rattle.bus_script.specs.declared.line.Reason.TheVariants.{Order, Session, Clock, Length, Text}
-use Rattle.bus_script.specs.declared.line.Start.{Start}
-use Rattle.bus_script.specs.declared.line.SessionLine.{SessionLine}
-use Rattle.bus_script.specs.declared.line.Answer.{Answer}
 use Rattle.bus_script.specs.declared.line.Line.{Line}
 use Rattle.bus_script.specs.declared.line.Line.TheVariants as lines
-use Rattle.bus_script.specs.Shape.{Say, lines_of, rounds_lines, start_lines}
+use Rattle.bus_script.specs.Shape.{Say, lines_of}
 
 -- Nothing stands before the rounds.
 abbrev Reached : Script → Type 0

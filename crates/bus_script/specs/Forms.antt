@@ -1,5 +1,5 @@
 -- The forms of a line, by its words.
-use Rattle.std.specs.Prelude.{◌≡◌, ℕ, ◌^◌, ◌-◌, Bool, true, false, not, List, [], ◌∷◌, length, take, Option, Some, None, Result, Ok, Err, ◌&&◌, nat_eq, is_none, is_some, ◌==◌, drop, if◌then◌else◌, codes}
+use Rattle.std.specs.Prelude.{ℕ, ◌^◌, ◌-◌, Bool, true, false, not, List, [], ◌∷◌, length, take, Option, Some, Result, Ok, Err, ◌&&◌, nat_eq, is_none, is_some, ◌==◌, drop, if◌then◌else◌, codes}
 use Rattle.std.specs.List.{join_with_byte, ends_with, starts_with}
 use Rattle.std.specs.Option.{ok_or}
 use Rattle.std.specs.Int.{w32, w128, from_be_bytes}
@@ -16,7 +16,7 @@ use Rattle.bus_address.specs.Guid.{guid}
 use Rattle.bus_address.specs.Plain.{plain_path}
 use Rattle.bus_opening.specs.Mechanisms.{mechanism}
 use Rattle.bus_opening.specs.declared.mechanism.AuthMechanism.{AuthMechanism}
-use Rattle.bus_opening.specs.declared.mechanism.AuthMechanism.TheVariants.{External, Anonymous}
+use Rattle.bus_opening.specs.declared.mechanism.AuthMechanism.TheVariants.{External}
 use Rattle.bus_opening.specs.declared.config.ClientConfig.{ClientConfig}
 use Rattle.bus_script.specs.Words.{◌>>=◌, ◌is◌, parts_of, number, flag, optional, or_form, bytes}
 use Rattle.bus_script.specs.declared.line.Reason.{Reason}
@@ -28,7 +28,6 @@ use Rattle.bus_script.specs.declared.line.ReadySource.TheVariants as sources
 use Rattle.bus_script.specs.declared.line.Ready.{Ready}
 use Rattle.bus_script.specs.declared.line.Answer.{Answer}
 use Rattle.bus_script.specs.declared.line.Answer.TheVariants as answers
-use Rattle.bus_script.specs.declared.line.SessionLine.{SessionLine}
 use Rattle.bus_script.specs.declared.line.SessionLine.TheVariants as sessions
 use Rattle.bus_script.specs.declared.line.Line.{Line}
 use Rattle.bus_script.specs.declared.line.Line.TheVariants as lines

@@ -1,5 +1,5 @@
 -- What holds of each script that is read.
-use Rattle.std.specs.Prelude.{ℕ, ◌≤◌, List, [], ◌∷◌, length, Option, Some, None}
+use Rattle.std.specs.Prelude.{ℕ, ◌≤◌, List, [], ◌∷◌, length}
 use Rattle.std.specs.List.{AllPass}
 use Rattle.bus_script.specs.Forms.{is_built}
 use Rattle.bus_script.specs.Script.{Script, names_sessions}

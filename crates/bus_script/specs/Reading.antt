@@ -1,7 +1,7 @@
 -- What the functions answer that read a script.
 use Rattle.std.specs.Prelude.{◌≡◌, ℕ, ◌+◌, List, [], ◌∷◌, length, Option, MatchOption, Result, Ok, Err}
 use denote.Ref.{Bor}
-use Rattle.bus_script.specs.Script.{Script, Refused, lines_in}
+use Rattle.bus_script.specs.Script.{Refused, lines_in}
 use Rattle.bus_script.specs.declared.line.Reason.{Reason}
 use Rattle.bus_script.specs.declared.line.LineError.{LineError}
 use Rattle.bus_script.specs.declared.line.LineError.TheVariants as line_errors

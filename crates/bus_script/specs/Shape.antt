@@ -1,5 +1,5 @@
 -- The lines of a script that is read, as one list.
-use Rattle.std.specs.Prelude.{◌≡◌, ℕ, Bool, true, false, List, [], ◌∷◌, ◌++◌, map, Option, Some, None, Result, Ok, Err, ◌⊎◌}
+use Rattle.std.specs.Prelude.{◌≡◌, ℕ, true, false, List, [], ◌∷◌, ◌++◌, map, Option, Some, None, Ok, ◌⊎◌}
 use Rattle.bus_script.specs.Words.{◌>>=◌, words_of}
 use Rattle.bus_script.specs.Forms.{line_of}
 use Rattle.bus_script.specs.Script.{Script, is_skipped, built}

@@ -14,6 +14,7 @@ mod words;
 
 pub use ended::{Ended, Ending};
 pub use line::{Answer, Line, Readies, Ready, ReadySource, Reason, ScriptWait, SessionLine, Start};
+pub use number::number_below;
 pub use print::{EventLine, printed, refusal};
 pub use reading::{Parts, Script, ScriptError, ScriptForm, read};
 

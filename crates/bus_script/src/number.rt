@@ -23,9 +23,9 @@ fn plain_number(word: &str) -> Option<u64>
     word.parse::<u64>().ok()
 }
 
-/// The number that the text writes out, where it writes one below the limit.
+/// The number that the text writes out, where it writes one below the limit. It has no sign, and no zero in front of other digits.
 #[tactic(auto, using(crate::proofs::Numbers::narrow_some, crate::proofs::Numbers::narrow_beyond, crate::proofs::Numbers::narrow_none))]
-fn number_below(word: &str, limit: u64) -> Option<u64>
+pub fn number_below(word: &str, limit: u64) -> Option<u64>
     ensures value { result ≡ number_of limit word.now }
     ensures below { IfSome result (λ n. n < limit) }
 {

@@ -1,6 +1,6 @@
-use Rattle.std.proofs.Common.{◌≡◌, ◌+◌, ◌≤◌, length, sym, ◌∙◌, arith, [], rules}
+use Rattle.std.proofs.Common.{sym, ◌∙◌, arith, [], rules}
 use Rattle.std.proofs.lemmas.Result.{err_from_is_err_and}
-use Rattle.bus_script.specs.Script.{read_lines, empty, lines_in}
+use Rattle.bus_script.specs.Script.{lines_in}
 use Rattle.bus_script.proofs.Lines.{step_ok, step_err, last_ok, fails_as}
 use Rattle.bus_script.proofs.reading.read_lines.Goals as goal
 
