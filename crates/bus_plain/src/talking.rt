@@ -86,8 +86,8 @@ fn with_hello(alloc: Global, text: &str, config: &ClientConfig) -> Result<Vec<u8
 }
 
 // What a client says first.
-fn opening(alloc: Global, config: &ClientConfig, passes: bool) -> Result<Vec<Bytes>, AllocError>
-    ensures value { IfOk result (λ v. v.items ≡ opening (terms config.now passes)) }
+fn opening(alloc: Global, config: &ClientConfig) -> Result<Vec<Bytes>, AllocError>
+    ensures value { (passes : Bool) → IfOk result (λ v. v.items ≡ opening (terms config.now passes)) }
 {
     let line = first_line(alloc, mechanism_of(config), config.user)?;
     only(alloc, line)
@@ -136,11 +136,10 @@ fn at_first(
 fn at_asking(
     alloc: Global,
     config: &ClientConfig,
-    passes: bool,
     guid: Guid,
     command: &Command,
 ) -> Result<Turn, AllocError>
-    ensures value { IfOk result (λ t. as_turn t ≡ step_command (settings config.now passes) (asking guid) command.now) }
+    ensures value { (passes : Bool) → IfOk result (λ t. as_turn t ≡ step_command (settings config.now passes) (asking guid) command.now) }
 {
     let agreed = match command {
         Command::AgreeUnixFD => true,
@@ -182,7 +181,7 @@ fn step_command(
 {
     match phase {
         Phase::First => at_first(alloc, config, passes, command),
-        Phase::Asking(guid) => at_asking(alloc, config, passes, guid, command),
+        Phase::Asking(guid) => at_asking(alloc, config, guid, command),
         Phase::Begun(guid) => Ok(Turn::Ends(Vec::new(alloc), begun_status(guid, command))),
     }
 }
@@ -262,7 +261,7 @@ pub(crate) fn talk(
 ) -> Result<Said, AllocError>
     ensures value { IfOk result (λ s. as_said s ≡ said_by config.now passes lines.now) }
 {
-    let before = opening(alloc, config, passes)?;
+    let before = opening(alloc, config)?;
     let turn = turn_from(alloc, config, passes, Phase::First, lines)?;
     let whole = onto(before, turn)?;
     Ok(said_of(whole))
