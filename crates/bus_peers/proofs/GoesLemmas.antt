@@ -1,12 +1,11 @@
 -- What a visit over the reactor comes to, in the record.
-use Rattle.std.proofs.Common.{rules, ◌≡◌, ◌≢◌, ◌<◌, ◌^◌, ℕ, ◌+◌, Bool, true, false, ◌||◌, ◌==◌, if◌then◌else◌, List, [], ◌∷◌, ◌++◌, map, length, Option, Some, None, is_some, refl, sym, ◌∙◌, ap, subst, inl, arith}
+use Rattle.std.proofs.Common.{rules, ◌≡◌, ◌≢◌, ℕ, ◌+◌, Bool, true, false, ◌==◌, if◌then◌else◌, List, [], ◌∷◌, ◌++◌, map, length, Option, Some, None, is_some, refl, sym, ◌∙◌, ap, subst, inl, arith}
 use Rattle.std.specs.Option.{option_map, option_and_then}
 use Rattle.std.proofs.lemmas.List.{append_assoc, append-nil}
-use Rattle.std.proofs.lemmas.Bool.Decides.{nat_tests}
+use Rattle.std.proofs.lemmas.Bool.{both_ways, ne_eqb, eq-eqb}
+use Rattle.std.proofs.lemmas.Option.{same_Some}
 use Rattle.react_core.specs.declared.outside.Event.{Event}
 use Rattle.react_core.specs.declared.outside.Event.TheVariants as event
-use Rattle.react_core.specs.declared.outside.RecvAnswer.TheVariants as recv_answer
-use Rattle.react_core.specs.declared.outside.SendAnswer.TheVariants as send_answer
 use Rattle.react_core.specs.declared.outside.DialAnswer.TheVariants as dial_answer
 use Rattle.react_core.specs.declared.outside.Question.TheVariants as question
 use Rattle.react_core.specs.declared.reactor.Dir.{Dir}
@@ -26,66 +25,24 @@ use Rattle.bus_peers.specs.Parts.{part}
 use Rattle.bus_peers.specs.Dialled.{first_question, conversation}
 use Rattle.bus_peers.specs.Alone.{Outcome, dials, goes_through, outcome_of, alone, outcome, HasEnded}
 use Rattle.bus_peers.specs.Headline.{after_begun}
-use Rattle.bus_peers.specs.Registry.{Held, Side, Idle, Waits, Reported, waits, stopped_held, held_at, with_held, registry}
-use Rattle.bus_peers.specs.Asking.{Asking, asks, begins, arms_at, asking_at, last_stop}
-use Rattle.bus_peers.specs.Settled.{Sleeps, undialled, first, again, Stay, ends, sleeps, AreCalls, waits_in, armings_in}
+use Rattle.bus_peers.specs.Registry.{Held, Idle, waits, side_held, held_at, with_held, registry}
+use Rattle.bus_peers.specs.Asking.{asks, begins, last_stop}
+use Rattle.bus_peers.specs.Settled.{is_armed, Sleeps, undialled, first, again, Stay, ends, sleeps, AreCalls, waits_in, armings_in}
 use Rattle.bus_peers.specs.Shown.{Rests, shown}
 use Rattle.bus_peers.specs.Slots.{Talking, Stands, Goes}
 use Rattle.bus_peers.specs.Visited as visited
 use Rattle.bus_peers.specs.Visited.{is_awake, arms_told, stands_at, Pauses, Stays, Stayed, Registered, FirstVisits}
-use Rattle.bus_peers.proofs.Talks.{bytes_eq-refl, part-append, registry-append, last_stop-append, goes-append, waits_in-append, armings_in-append, part-own, part-other, calls-no-armings}
-use Rattle.bus_peers.proofs.Keeps.{with-keeps}
-
-same_number : (n : ℕ) → (n == n) ≡ true
-same_number n = grind (arith, nat_tests)
-
-other_number : (n m : ℕ) → m ≢ n → (n == m) ≡ false
-other_number n m other = grind (arith, nat_tests, other)
+use Rattle.bus_peers.proofs.PlayLemmas.{bytes_eq-refl}
+use Rattle.bus_peers.proofs.Talks.{part-append, registry-append, last_stop-append, goes-append, waits_in-append, armings_in-append, part-own, part-other, calls-no-armings}
+use Rattle.bus_peers.proofs.Readies.{begun-still}
+use Rattle.bus_peers.proofs.Keeps.{with-keeps, with-here, two-keys, held-key}
+use Rattle.bus_peers.proofs.Armings.{armed-append, calls-arm-none, visit-arms-other, visit-arms-own, arms-counted}
 
 plus_none : (a b : ℕ) → a ≡ 0 → a + b ≡ b
 plus_none a b e = omega arith
 
 other_dial : (wire w key : ℕ) (path : List ℕ) (passes : Bool) → w ≢ wire → part w (event.Dial wire (question.Unix path) (dial_answer.Opened passes) ∷ event.Add wire key true ∷ []) ≡ []
-other_dial wire w key path passes other = rw (other_number wire w other) refl
-
-same_key : (a b : ℕ) → (a == b) ≡ true → a ≡ b
-same_key a b e = grind (arith, nat_tests)
-
--- ---- an arming is nothing but Modify events
-
-abbrev Arms : Option (List Event) → Type 0
-Arms o = armings_in (arms_told o) ≡ length (arms_told o)
-
-arms_if : (b : Bool) (wire key : ℕ) (read write : Bool) → Arms (Some (if b then event.Modify wire key read write true ∷ [] else []))
-arms_if true wire key read write = refl
-arms_if false wire key read write = refl
-
-arms-at : (dir : Dir) (h : Held) (side : Side) → Arms (arms_at dir h side)
-arms-at dir h Idle = let after : Held = stopped_held dir h in arms_if (waits after.read || waits after.write) after.wire after.key (waits after.read) (waits after.write)
-arms-at dir h Waits = refl
-arms-at dir h Reported = refl
-
-arms-next : (t : Asking) (e : Event) → Arms t.over → Arms (asking_at t e).over
-arms-next t (event.Recv w asked recv_answer.NotReady) arms = arms-at Read t.held t.held.read
-arms-next t (event.Send w offered send_answer.NotReady) arms = arms-at Write t.held t.held.write
-arms-next t e arms = arms
-
-asks-none : (calls : List Event) (t : Asking) → asks None calls ≡ Some t → None ≡ Some t
-asks-none [] t is = is
-asks-none (e ∷ calls) t is = asks-none calls t is
-
-arms_go : (t : Asking) (e : Event) (calls : List Event) (t' : Asking) (b : Bool) → is_some t.over ≡ b → Arms t.over → asks (Some t) (e ∷ calls) ≡ Some t' →
-    (Arms (asking_at t e).over → asks (Some (asking_at t e)) calls ≡ Some t' → Arms t'.over) → Arms t'.over
-arms_go t e calls t' true stopped arms is ih = let no_way : None ≡ Some t' = asks-none calls t' (rw stopped at is) in cc
-arms_go t e calls t' false stopped arms is ih = ih (arms-next t e arms) (rw stopped at is)
-
-arms-asks : (t : Asking) (calls : List Event) (t' : Asking) → Arms t.over → asks (Some t) calls ≡ Some t' → Arms t'.over
-arms-asks t [] t' arms is = let same : t ≡ t' = cc in subst (λ x. Arms x.over) same arms
-arms-asks t (e ∷ calls) t' arms is = arms_go t e calls t' (is_some t.over) refl arms is (arms-asks (asking_at t e) calls t')
-
--- each event of the arming that a visit ends with is a Modify
-pub arms-counted : (h h' : Held) (calls : List Event) (o : Option (List Event)) → asks (Some (begins h)) calls ≡ Some (record { held = h'; over = o }) → armings_in (arms_told o) ≡ length (arms_told o)
-arms-counted h h' calls o is = arms-asks (begins h) calls (record { held = h'; over = o }) refl is
+other_dial wire w key path passes other = rw (ne_eqb wire w (λ e. other (sym e))) refl
 
 -- ---- a session alone
 
@@ -123,20 +80,13 @@ record StayGoes (s : Session) (wire : ℕ) (q : List Event) (key : ℕ) (before 
   shows : registry [] (q ++ v) ≡ map shown new.sources
   others : (w : ℕ) → w ≢ wire → part w v ≡ []
   keeps : (k : ℕ) (x : Held) → held_at (registry [] q) k ≡ Some x → x.wire ≢ wire → held_at (registry [] (q ++ v)) k ≡ Some x
+  arms : (k : ℕ) (x : Held) (d : Dir) → held_at (registry [] q) k ≡ Some x → x.wire ≢ wire → is_armed k d false (q ++ v) ≡ is_armed k d false q
   rests : Rests new
   ticker : new.ticker ≡ old.ticker
   made : new.made ≡ old.made
   begun : new.begun ≡ after_begun old.begun (armings_in v)
   waits : waits_in v ≡ 0
   stands : (pending : List ℕ) → Stands s wire pending (q ++ v) c
-
-held_key_go : (x : Held) (held : List Held) (key : ℕ) (h : Held) (b : Bool) → (x.key == key) ≡ b → held_at (x ∷ held) key ≡ Some h → (held_at held key ≡ Some h → h.key ≡ key) → h.key ≡ key
-held_key_go x held key h true e is ih = let here : Some x ≡ Some h = rw e at is in let f : x ≡ h = cc in ap (λ y. y.key) (sym f) ∙ same_key x.key key e
-held_key_go x held key h false e is ih = ih (rw e at is)
-
-pub held-key : (held : List Held) (key : ℕ) (h : Held) → held_at held key ≡ Some h → h.key ≡ key
-held-key [] key h is = cc
-held-key (x ∷ held) key h is = held_key_go x held key h (x.key == key) refl is (held-key held key h)
 
 stay-ends : (s : Session) (wire key : ℕ) (q calls : List Event) (h h' : Held) (o : Option (List Event)) → held_at (registry [] q) key ≡ Some h → h.wire ≡ wire → AreCalls wire calls →
     asks (Some (begins h)) calls ≡ Some (record { held = h'; over = o }) → HasEnded s wire (q ++ calls) → o ≡ None → Stay s wire q key (calls ++ event.Delete wire key true ∷ [])
@@ -162,8 +112,18 @@ no-arms : (o : Option (List Event)) → o ≡ None → 0 ≡ length (arms_told o
 no-arms None e = refl
 no-arms (Some ms) e = cc
 
+-- a visit arms the sources of no other wire
+arms-stay : (wire : ℕ) (q calls tail : List Event) (k : ℕ) (d : Dir) → AreCalls wire calls → is_armed k d (is_armed k d false q) tail ≡ is_armed k d false q → is_armed k d false (q ++ (calls ++ tail)) ≡ is_armed k d false q
+arms-stay wire q calls tail k d own none =
+    armed-append k d false q (calls ++ tail)
+    ∙ (armed-append k d (is_armed k d false q) calls tail ∙ (ap (λ x. is_armed k d x tail) (calls-arm-none wire calls k d (is_armed k d false q) own) ∙ none))
+
+-- the direction that this source waits for is armed after these events
+abbrev ArmedWhere : ℕ → List Event → Type 0
+ArmedWhere key q = (x : Held) (d : Dir) → held_at (registry [] q) key ≡ Some x → waits (side_held d x) ≡ true → is_armed key d false q ≡ true
+
 module _ (s : Session) (wire key : ℕ) (q : List Event) (r0 r1 : Option (List Event)) (old new : Core) (c : Opening) (talk : List (List ℕ) → Said) (b : List ℕ) (paused : Bool)
-    (same : registry [] q ≡ map shown old.sources) (stands : StandsIn talk b c)
+    (same : registry [] q ≡ map shown old.sources) (were : ArmedWhere key q) (stands : StandsIn talk b c)
     (through : goes_through s.party (option_map dials (first_question s.party)) (part wire q) ≡ Some (stands_at talk b c paused)) where
   shows-stay : (v : List Event) → registry (map shown old.sources) v ≡ map shown new.sources → registry [] (q ++ v) ≡ map shown new.sources
   shows-stay v shows = registry-append [] q v ∙ (ap (λ y. registry y v) same ∙ shows)
@@ -186,6 +146,7 @@ module _ (s : Session) (wire key : ℕ) (q : List Event) (r0 r1 : Option (List E
         shows = shows-stay (calls ++ tail) x.shows;
         others = λ w other. others-stay wire w calls tail own refl other;
         keeps = keeps-stay (calls ++ tail) x.shows x.keeps;
+        arms = λ k y d at other. arms-stay wire q calls tail k d own refl;
         rests = x.rests;
         ticker = x.ticker;
         made = x.made;
@@ -193,6 +154,22 @@ module _ (s : Session) (wire key : ℕ) (q : List Event) (r0 r1 : Option (List E
         waits = x.waits;
         stands = λ pending. record { wired = x.stays.wired; unread = x.stays.unread; awake = x.stays.awake; comes = out' };
       }
+
+  arms-tail : (h h' : Held) (calls : List Event) (o : Option (List Event)) → asks (Some (begins h)) calls ≡ Some (record { held = h'; over = o }) → AreCalls wire calls → held_at (registry [] q) key ≡ Some h → h.wire ≡ wire →
+      (k : ℕ) (x : Held) (d : Dir) → held_at (registry [] q) k ≡ Some x → x.wire ≢ wire → is_armed k d false (q ++ (calls ++ arms_told o)) ≡ is_armed k d false q
+  arms-tail h h' calls o asked own was wired = λ k x d at other.
+      let apart : k ≢ key = two-keys (registry [] q) key k x h wire was wired at other in
+      let ne : k ≢ h.key = λ e. apart (e ∙ held-key (registry [] q) key h was) in
+      arms-stay wire q calls (arms_told o) k d own (visit-arms-other h h' calls o k d (is_armed k d false q) asked ne)
+
+  armed-now : (h h' : Held) (calls : List Event) (o : Option (List Event)) → asks (Some (begins h)) calls ≡ Some (record { held = h'; over = o }) → AreCalls wire calls → held_at (registry [] q) key ≡ Some h →
+      (d : Dir) → waits (side_held d h') ≡ true → is_armed key d false (q ++ (calls ++ arms_told o)) ≡ true
+  armed-now h h' calls o asked own was = λ d up.
+      let b0 : Bool = is_armed key d false q in
+      let A : ℕ → Type 0 = λ k. is_armed k d b0 (arms_told o) ≡ true in
+      let last : is_armed key d b0 (arms_told o) ≡ true = subst A (held-key (registry [] q) key h was) (visit-arms-own h h' calls o d b0 asked up (were h d was)) in
+      armed-append key d false q (calls ++ arms_told o)
+      ∙ (armed-append key d b0 calls (arms_told o) ∙ (ap (λ y. is_armed key d y (arms_told o)) (calls-arm-none wire calls key d b0 own) ∙ last))
 
   stay-asleep : (sl : Sleeper) (h h' : Held) (calls : List Event) (o : Option (List Event)) (b' : List ℕ) → Stayed wire key r0 r1 old new c (slot.Asleep sl) h h' calls o → Pauses talk b c sl.client calls b' →
       StayGoes s wire q key r0 r1 old new (slot.Asleep sl) (calls ++ arms_told o)
@@ -208,9 +185,12 @@ module _ (s : Session) (wire key : ℕ) (q : List Event) (r0 r1 : Option (List E
       ap (last_stop None) (quiet ∙ (part-append wire q calls ∙ ap (λ y. part wire q ++ y) (part-own wire calls own)))
       ∙ (last_stop-append None (part wire q) calls ∙ x.stays.stops.last (last_stop None (part wire q))) in
       let held' : held_at (registry [] (q ++ v)) key ≡ Some h' = ap (λ y. held_at y key) (shows-stay v x.shows) ∙ x.stays.held in
+      let was : held_at (registry [] q) key ≡ Some h = ap (λ y. held_at y key) same ∙ x.was in
+      let armed' : (d : Dir) → waits (side_held d h') ≡ true → is_armed key d false (q ++ v) ≡ true = armed-now h h' calls o x.asked own was in
+      let key' : h'.key ≡ key = held-key (registry [] (q ++ v)) key h' held' in
       record {
         gained = x.gained;
-        stay = stay-sleeps s wire key q calls h h' o (ap (λ y. held_at y key) same ∙ x.was) x.wired own x.asked
+        stay = stay-sleeps s wire key q calls h h' o was x.wired own x.asked
             (record {
               came = record { ending = ending.Waiting; written = sl.client.written; leftover = sl.client.rest };
               alone_so = out';
@@ -218,13 +198,15 @@ module _ (s : Session) (wire key : ℕ) (q : List Event) (r0 r1 : Option (List E
               dir = x.stays.stops.dir;
               paused = paused';
               held = h';
-              registered = ap (held_at (registry [] (q ++ v))) (held-key (registry [] (q ++ v)) key h' held') ∙ held';
+              registered = ap (held_at (registry [] (q ++ v))) key' ∙ held';
               own = x.wired';
-              armed = x.stays.stops.side;
+              armed = ap (λ k. is_armed k x.stays.stops.dir false (q ++ v)) key' ∙ armed' x.stays.stops.dir x.stays.stops.side;
+              unreported = x.stays.stops.side;
             }) x.stays.over;
         shows = shows-stay v x.shows;
         others = λ w other. others-stay wire w calls tail own (x.apart w) other;
         keeps = keeps-stay v x.shows x.keeps;
+        arms = arms-tail h h' calls o x.asked own was x.wired;
         rests = x.rests;
         ticker = x.ticker;
         made = x.made;
@@ -245,6 +227,7 @@ module _ (s : Session) (wire key : ℕ) (q : List Event) (r0 r1 : Option (List E
             own = x.wired';
             dir = x.stays.stops.dir;
             last = paused';
+            armed = λ d up. ap (λ k. is_armed k d false (q ++ v)) x.stays.at ∙ armed' d up;
             waits_or_due = inl x.stays.stops.side;
           };
         };
@@ -270,6 +253,7 @@ again-by s wire key q r0 r1 old new c (v, x) = (
     shows = x.shows;
     others = x.others;
     keeps = x.keeps;
+    arms = x.arms;
     rests = x.rests;
     ticker = x.ticker;
     made = x.made;
@@ -279,15 +263,12 @@ again-by s wire key q r0 r1 old new c (v, x) = (
   },
 )
 
-pub goes-again : (s : Session) (wire key : ℕ) (q : List Event) (r0 r1 : Option (List Event)) (old new : Core) (c : Opening) (slot : Slot) → registry [] q ≡ map shown old.sources → Talking s wire q c →
+pub goes-again : (s : Session) (wire key : ℕ) (q : List Event) (r0 r1 : Option (List Event)) (old new : Core) (c : Opening) (slot : Slot) → registry [] q ≡ map shown old.sources → ArmedWhere key q → Talking s wire q c →
     Stays wire key r0 r1 old new c slot → (v : List Event) × Goes s wire q r0 r1 old new slot v
-goes-again s wire key q r0 r1 old new c slot same talking stays =
-    again-by s wire key q r0 r1 old new slot (stay-goes s wire key q r0 r1 old new c talking.talk talking.got true same talking.stands talking.through slot stays)
+goes-again s wire key q r0 r1 old new c slot same were talking stays =
+    again-by s wire key q r0 r1 old new slot (stay-goes s wire key q r0 r1 old new c talking.talk talking.got true same were talking.stands talking.through slot stays)
 
 -- ---- a first visit
-
-begun-still : (n : ℕ) → n < 2 ^ 64 → n ≡ after_begun n 0
-begun-still n fits = omega arith
 
 -- the dialling failed
 alone-failed : (s : Session) (wire : ℕ) (path : List ℕ) → first_question s.party ≡ Some (question.Unix path) →
@@ -301,7 +282,7 @@ goes-undialled : (s : Session) (wire : ℕ) (q : List Event) (r0 r1 : Option (Li
 goes-undialled s wire q r0 r1 old path same none rests asks gained =
     let dial : Event = event.Dial wire (question.Unix path) dial_answer.Failed in
     let o : Outcome = record { ending = ending.Connection; written = []; leftover = [] } in
-    let own : part wire (dial ∷ []) ≡ dial ∷ [] = rw (same_number wire) refl in
+    let own : part wire (dial ∷ []) ≡ dial ∷ [] = rw (eq-eqb wire wire refl) refl in
     let mine : part wire (q ++ dial ∷ []) ≡ dial ∷ [] = part-append wire q (dial ∷ []) ∙ (ap (λ x. x ++ part wire (dial ∷ [])) none ∙ own) in
     let out : alone s (part wire (q ++ dial ∷ [])) ≡ Some o = ap (alone s) mine ∙ alone-failed s wire path asks in
     let still : registry [] (q ++ dial ∷ []) ≡ registry [] q = registry-append [] q (dial ∷ []) in
@@ -309,8 +290,9 @@ goes-undialled s wire q r0 r1 old path same none rests asks gained =
       gained = gained;
       visit = undialled (dial ∷ []) none (refl, tt {0}) (o, out, awake-not_waiting ending.Connection refl);
       shows = still ∙ same;
-      others = λ w other. rw (other_number wire w other) refl;
+      others = λ w other. rw (ne_eqb wire w (λ e. other (sym e))) refl;
       keeps = λ k x at other. ap (λ z. held_at z k) still ∙ at;
+      arms = λ k x d at other. armed-append k d false q (dial ∷ []);
       rests = rests;
       ticker = refl;
       made = refl;
@@ -326,6 +308,13 @@ through-opened s wire path passes talk c asks begun unwritten = rw (asks, bytes_
 
 new_key : (held : List Held) (key k : ℕ) (x : Held) → held_at held key ≡ None → held_at held k ≡ Some x → key ≢ k
 new_key held key k x free at = λ e. let f : None ≡ Some x = sym free ∙ (ap (held_at held) e ∙ at) in cc
+
+-- a new source waits for nothing
+new-idle : (held : List Held) (h x : Held) (d : Dir) → held_at held h.key ≡ None → h.read ≡ Idle → h.write ≡ Idle → held_at (with_held held h) h.key ≡ Some x → waits (side_held d x) ≡ false
+new-idle held h x d free read write at = idle-of d (same_Some h x (sym (with-here held h free) ∙ at)) where
+  idle-of : (d : Dir) → h ≡ x → waits (side_held d x) ≡ false
+  idle-of Read is = ap (λ y. waits y.read) (sym is) ∙ ap waits read
+  idle-of Write is = ap (λ y. waits y.write) (sym is) ∙ ap waits write
 
 first-by : (s : Session) (wire key : ℕ) (q : List Event) (r0 r1 : Option (List Event)) (old mid new : Core) (c : Slot) (path : List ℕ) (passes : Bool) → part wire q ≡ [] → held_at (registry [] q) key ≡ None → mid ≡ inserted old key wire →
     (v : List Event) × StayGoes s wire (q ++ event.Dial wire (question.Unix path) (dial_answer.Opened passes) ∷ event.Add wire key true ∷ []) key
@@ -347,6 +336,11 @@ first-by s wire key q r0 r1 old mid new c path passes none free is (v, x) =
         others = λ w other. part-append w pre v ∙ (ap (λ y. y ++ part w v) (other_dial wire w key path passes other) ∙ x.others w other);
         keeps = λ k y at other. ap (λ z. held_at (registry [] z) k) (sym assoc)
             ∙ x.keeps k y (ap (λ z. held_at z k) mid' ∙ with-keeps (registry [] q) held k y at (new_key (registry [] q) key k y free at)) other;
+        arms = λ k y d at other.
+            let ne : key ≢ k = new_key (registry [] q) key k y free at in
+            let off : (key == k) ≡ false = ne_eqb key k ne in
+            let before : is_armed k d false (q ++ pre) ≡ is_armed k d false q = armed-append k d false q pre ∙ ap (λ z. if z then false else is_armed k d false q) off in
+            ap (is_armed k d false) (sym assoc) ∙ (x.arms k y d (ap (λ z. held_at z k) mid' ∙ with-keeps (registry [] q) held k y at ne) other ∙ before);
         rests = x.rests;
         ticker = x.ticker ∙ ap (λ z. z.ticker) is;
         made = x.made ∙ ap (λ z. z.made) is;
@@ -364,12 +358,13 @@ goes-opened s wire q r0 r1 old new c path passes talk client key mid same none a
     let add : Event = event.Add wire key true in
     let pre : List Event = dial ∷ add ∷ [] in
     let held : Held = record { key = key; wire = wire; read = Idle; write = Idle } in
-    let own : part wire pre ≡ dial ∷ [] = rw (same_number wire) refl in
+    let own : part wire pre ≡ dial ∷ [] = rw (eq-eqb wire wire refl) refl in
     let mine : part wire (q ++ pre) ≡ dial ∷ [] = part-append wire q pre ∙ (ap (λ x. x ++ part wire pre) none ∙ own) in
     let shows' : registry [] (q ++ pre) ≡ map shown mid.sources = registry-append [] q pre ∙ (ap (λ x. with_held x held) same ∙ r.shows) in
     let free : held_at (registry [] q) key ≡ None = ap (λ x. held_at x key) same ∙ r.free in
+    let were : ArmedWhere key (q ++ pre) = λ x d at up. absurd (both_ways (waits (side_held d x)) (new-idle (registry [] q) held x d free refl refl (ap (λ y. held_at y key) (sym (registry-append [] q pre)) ∙ at)) up) in
     first-by s wire key q r0 r1 old mid new c path passes none free r.core
-    (stay-goes s wire key (q ++ pre) (told (told r0 (dial ∷ [])) (add ∷ [])) r1 mid new client talk [] false shows' r.stands
+    (stay-goes s wire key (q ++ pre) (told (told r0 (dial ∷ [])) (add ∷ [])) r1 mid new client talk [] false shows' were r.stands
     (ap (goes_through s.party (option_map dials (first_question s.party))) mine ∙ through-opened s wire path passes talk client asks r.begins r.unwritten) c r.stays)
 
 pub goes-first : (s : Session) (wire : ℕ) (q : List Event) (r0 r1 : Option (List Event)) (old new : Core) (slot : Slot) → registry [] q ≡ map shown old.sources → part wire q ≡ [] → Rests old →

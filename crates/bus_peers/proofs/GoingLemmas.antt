@@ -25,27 +25,34 @@ use Rattle.bus_peers.specs.Parts.{part}
 use Rattle.bus_peers.specs.Dialled.{first_question}
 use Rattle.bus_peers.specs.Alone.{dials, goes_through, alone, outcome, HasEnded}
 use Rattle.bus_peers.specs.Headline.{after_begun}
-use Rattle.bus_peers.specs.Registry.{Held, Side, Idle, Waits, Reported, waits, told_of, side_held, held_at, reported_held, after_report_held, after_reports_held, registry, arming, rearming, rearming_of}
+use Rattle.bus_peers.specs.Registry.{Held, Side, Idle, Waits, Reported, waits, told_of, side_held, held_at, reported_held, after_report_held, after_reports_held, registry, rearming, rearming_of}
 use Rattle.bus_peers.specs.Asking.{last_stop}
-use Rattle.bus_peers.specs.Settled.{Sleeps, AllRest, start, visited, turned, counting, waits_in, armings_in, is_in, is_due, due_at, AreDue, round_events}
+use Rattle.bus_peers.specs.Settled.{is_armed, Sleeps, AllRest, start, visited, turned, counting, waits_in, armings_in, is_in, is_due, due_at, AreDue, round_events}
 use Rattle.bus_peers.specs.Shown.{Rests, shown, Tags, tags, has_wire}
 use Rattle.bus_peers.specs.Visited.{is_awake, Stays, FirstVisits}
 use Rattle.bus_peers.specs.Rounds.{Rounded, HaveWires, OnExhausted}
 use Rattle.bus_peers.specs.Slots.{Talking, Paused, Stands, AllStand, Going, Went, GoesFrom, GoesRound, GoesRounds, Goes, Rested, Told, Halted, Stuck}
 use Rattle.bus_peers.proofs.Talks.{registry-append, waits_in-append}
 use Rattle.bus_peers.proofs.RoundLemmas.{round-held, round-apart}
-use Rattle.bus_peers.proofs.GoesLemmas.{goes-again, goes-first, held-key, part-quiet}
+use Rattle.bus_peers.proofs.GoesLemmas.{goes-again, goes-first, part-quiet}
+use Rattle.bus_peers.proofs.Keeps.{held-key, report-held}
+use Rattle.bus_peers.proofs.Armings.{arming-waits, armed-append, told-arms-none, rearms}
 
 -- ---- a session that is not visited stands where it stood
 
+-- each direction of the source that waits is armed
+abbrev pub ArmsAll : ℕ → List Event → Held → Type 0
+ArmsAll k q h = (d : Dir) → waits (side_held d h) ≡ true → is_armed k d false q ≡ true
+
 -- how the source of a session that sleeps goes on
 abbrev pub Moves : ℕ → List ℕ → List ℕ → List Event → List Event → Type 0
-Moves w pending pending' q q' = (k : ℕ) (h : Held) (dir : Dir) → held_at (registry [] q) k ≡ Some h → h.wire ≡ w → (waits (side_held dir h) ≡ true) ⊎ (is_in w pending ≡ true) →
-    (h' : Held) × (held_at (registry [] q') k ≡ Some h') × (h'.wire ≡ w) × ((waits (side_held dir h') ≡ true) ⊎ (is_in w pending' ≡ true))
+Moves w pending pending' q q' = (k : ℕ) (h : Held) (dir : Dir) → held_at (registry [] q) k ≡ Some h → h.wire ≡ w → ArmsAll k q h →
+    (waits (side_held dir h) ≡ true) ⊎ (is_in w pending ≡ true) →
+    (h' : Held) × (held_at (registry [] q') k ≡ Some h') × (h'.wire ≡ w) × ArmsAll k q' h' × ((waits (side_held dir h') ≡ true) ⊎ (is_in w pending' ≡ true))
 
 paused-move : (w : ℕ) (pending pending' : List ℕ) (q q' : List Event) (key : ℕ) (dir : Dir) → last_stop None (part w q') ≡ Some dir →
-    (h : Held) × (held_at (registry [] q') key ≡ Some h) × (h.wire ≡ w) × ((waits (side_held dir h) ≡ true) ⊎ (is_in w pending' ≡ true)) → Paused w q' key pending'
-paused-move w pending pending' q q' key dir last (h, at, own, up) = record { held = h; registered = at; own = own; dir = dir; last = last; waits_or_due = up }
+    (h : Held) × (held_at (registry [] q') key ≡ Some h) × (h.wire ≡ w) × ArmsAll key q' h × ((waits (side_held dir h) ≡ true) ⊎ (is_in w pending' ≡ true)) → Paused w q' key pending'
+paused-move w pending pending' q q' key dir last (h, at, own, armed, up) = record { held = h; registered = at; own = own; dir = dir; last = last; armed = armed; waits_or_due = up }
 
 pub stands-move : (s : Session) (w : ℕ) (pending pending' : List ℕ) (q q' : List Event) (c : Slot) → part w q' ≡ part w q → Moves w pending pending' q q' →
     Stands s w pending q c → Stands s w pending' q' c
@@ -67,7 +74,7 @@ stands-move s w pending pending' q q' (slot.Asleep c) same moves is =
         stands = t.stands;
         through = ap (goes_through s.party (option_map dials (first_question s.party))) same ∙ t.through;
       };
-      paused = paused-move w pending pending' q q' c.key p.dir (ap (last_stop None) same ∙ p.last) (moves c.key p.held p.dir p.registered p.own p.waits_or_due);
+      paused = paused-move w pending pending' q q' c.key p.dir (ap (last_stop None) same ∙ p.last) (moves c.key p.held p.dir p.registered p.own p.armed p.waits_or_due);
     }
 stands-move s w pending pending' q q' slot.Refused same moves is = absurd is
 
@@ -157,7 +164,8 @@ rest-of s w q (slot.Asleep c) is =
       held = p.held;
       registered = ap (held_at (registry [] q)) (sym same) ∙ p.registered;
       own = p.own;
-      armed = waits-now w p.held p.dir p.waits_or_due;
+      armed = ap (λ k. is_armed k p.dir false q) (sym same) ∙ p.armed p.dir (waits-now w p.held p.dir p.waits_or_due);
+      unreported = waits-now w p.held p.dir p.waits_or_due;
     })
 rest-of s w q slot.Refused is = absurd is
 
@@ -214,8 +222,10 @@ other-pending : (w wire : ℕ) (pending : List ℕ) → w ≢ wire → is_in w (
 other-pending w wire pending ne is = let off : (wire == w) ≡ false = ne_eqb wire w (λ e. ne (sym e)) in rw off at is
 
 visit-moves : (s : Session) (w wire : ℕ) (pending : List ℕ) (q v : List Event) (r0 r1 : Option (List Event)) (old new : Core) (c : Slot) → w ≢ wire → Goes s wire q r0 r1 old new c v → Moves w (wire ∷ pending) pending q (q ++ v)
-visit-moves s w wire pending q v r0 r1 old new c ne g k h dir at own (inl up) = (h, g.keeps k h at (λ e. ne (sym own ∙ e)), own, inl up)
-visit-moves s w wire pending q v r0 r1 old new c ne g k h dir at own (inr is) = (h, g.keeps k h at (λ e. ne (sym own ∙ e)), own, inr (other-pending w wire pending ne is))
+visit-moves s w wire pending q v r0 r1 old new c ne g k h dir at own armed (inl up) =
+    let other : h.wire ≢ wire = λ e. ne (sym own ∙ e) in (h, g.keeps k h at other, own, λ d wait. g.arms k h d at other ∙ armed d wait, inl up)
+visit-moves s w wire pending q v r0 r1 old new c ne g k h dir at own armed (inr is) =
+    let other : h.wire ≢ wire = λ e. ne (sym own ∙ e) in (h, g.keeps k h at other, own, λ d wait. g.arms k h d at other ∙ armed d wait, inr (other-pending w wire pending ne is))
 
 visit-stands : (s : Session) (wire : ℕ) (pending : List ℕ) (q v : List Event) (r0 r1 : Option (List Event)) (old new : Core) (c : Slot) → Goes s wire q r0 r1 old new c v →
     (t : Session) (w : ℕ) (d : Slot) → w ≢ wire → Stands t w (wire ∷ pending) q d → Stands t w pending (q ++ v) d
@@ -250,6 +260,9 @@ visit-more sessions rounds n wire pending begin before r0 r1 old new slots slots
 length-slots : (slots : List Slot) (i : ℕ) (c : Slot) → length (slice_set slots i c) ≡ length slots
 length-slots slots i c = length-set slots i c
 
+paused-armed : (wire : ℕ) (q : List Event) (key : ℕ) (pending : List ℕ) → Paused wire q key pending → (x : Held) (d : Dir) → held_at (registry [] q) key ≡ Some x → waits (side_held d x) ≡ true → is_armed key d false q ≡ true
+paused-armed wire q key pending p x d at up = let same : x ≡ p.held = same_Some x p.held (sym at ∙ p.registered) in p.armed d (ap (λ y. waits (side_held d y)) (sym same) ∙ up)
+
 again-more : (sessions : List Session) (rounds n wire : ℕ) (pending : List ℕ) (begin : Core) (before r0 r1 : Option (List Event)) (old new : Core) (slots : List Slot) (q : List Event) (armed : ℕ) (s : Session) (d c : Slot) →
     slice_get slots wire ≡ Some d → slice_get (take (length slots) sessions) wire ≡ Some s → waits_in q ≡ n → Going sessions rounds (wire ∷ pending) begin before r0 old slots q armed →
     (v : List Event) × Goes s wire q r0 r1 old new c v → Went sessions rounds pending n begin before r1 new (slice_set slots wire c)
@@ -265,7 +278,7 @@ again-at : (sessions : List Session) (rounds n wire : ℕ) (pending : List ℕ) 
     slice_get slots wire ≡ Some (slot.Asleep sl) → Stays wire sl.key r0 r1 old new sl.client c → waits_in q ≡ n → Going sessions rounds (wire ∷ pending) begin before r0 old slots q armed →
     (s : Session) × (slice_get (take (length slots) sessions) wire ≡ Some s) × Stands s wire (wire ∷ pending) q (slot.Asleep sl) → Went sessions rounds pending n begin before r1 new (slice_set slots wire c)
 again-at sessions rounds n wire pending begin before r0 r1 old new slots q armed sl c was stays count g (s, at, is) =
-    again-more sessions rounds n wire pending begin before r0 r1 old new slots q armed s (slot.Asleep sl) c was at count g (goes-again s wire sl.key q r0 r1 old new sl.client c g.shows is.talking stays)
+    again-more sessions rounds n wire pending begin before r0 r1 old new slots q armed s (slot.Asleep sl) c was at count g (goes-again s wire sl.key q r0 r1 old new sl.client c g.shows (paused-armed wire q sl.key (wire ∷ pending) is.paused) is.talking stays)
 
 again-from : (sessions : List Session) (rounds n wire : ℕ) (pending : List ℕ) (begin : Core) (before r0 r1 : Option (List Event)) (old new : Core) (slots : List Slot) (sl : Sleeper) (c : Slot) →
     slice_get slots wire ≡ Some (slot.Asleep sl) → Stays wire sl.key r0 r1 old new sl.client c → Went sessions rounds (wire ∷ pending) n begin before r0 old slots → Went sessions rounds pending n begin before r1 new (slice_set slots wire c)
@@ -316,13 +329,9 @@ going-first sessions rounds wire begin before r0 r1 old new slots s c here at vi
 
 -- ---- a round
 
-none-arming : (h : Held) (b : Bool) → (waits h.read || waits h.write) ≡ b → waits_in (arming h) ≡ 0
-none-arming h true e = rw e refl
-none-arming h false e = rw e refl
-
 none-rearming_of : (o : Option Held) (r : Report) → waits_in (rearming_of o r) ≡ 0
 none-rearming_of None r = refl
-none-rearming_of (Some h) r = let k : Held = reported_held h r in none-arming k (waits k.read || waits k.write) refl
+none-rearming_of (Some h) r = arming-waits (reported_held h r)
 
 none-rearming : (held : List Held) (reports : List Report) → waits_in (rearming held reports) ≡ 0
 none-rearming held [] = refl
@@ -385,28 +394,6 @@ due-now r reports h Write key side at up = now-write r.write refl where
       (or_right (r.read && waits h.read) (r.write && waits h.write) (and_from r.write (waits h.write) e (ap waits at ∙ up)))))
   now-write false e = inl (ap (λ b. waits (told_of b h.write)) e ∙ (ap waits at ∙ up))
 
-report-go : (x : Held) (held : List Held) (r : Report) (k : ℕ) (h : Held) (b c : Bool) → (x.key == r.key) ≡ b → (x.key == k) ≡ c → h.key ≡ k → held_at (x ∷ held) k ≡ Some h →
-    (held_at held k ≡ Some h → held_at (after_report_held held r) k ≡ Some (if h.key == r.key then reported_held h r else h)) →
-    held_at (after_report_held (x ∷ held) r) k ≡ Some (if h.key == r.key then reported_held h r else h)
-report-go x held r k h true true e f key at ih =
-    let here : x ≡ h = same_Some x h (rw f at at) in
-    let P : Held → Type 0 = λ y. held_at (after_report_held (x ∷ held) r) k ≡ Some (if y.key == r.key then reported_held y r else y) in
-    subst P here (rw (e, f) refl)
-report-go x held r k h true false e f key at ih =
-    let there : held_at held k ≡ Some h = rw f at at in
-    let ne : h.key ≢ r.key = λ g. both_ways (x.key == k) f (eq-eqb x.key k (eqb-true x.key r.key e ∙ (sym g ∙ key))) in
-    let off : (h.key == r.key) ≡ false = ne_eqb h.key r.key ne in
-    rw (e, f, off) there
-report-go x held r k h false true e f key at ih =
-    let here : x ≡ h = same_Some x h (rw f at at) in
-    let P : Held → Type 0 = λ y. held_at (after_report_held (x ∷ held) r) k ≡ Some (if y.key == r.key then reported_held y r else y) in
-    subst P here (rw (e, f) refl)
-report-go x held r k h false false e f key at ih = rw (e, f) (ih (rw f at at))
-
-report-held : (held : List Held) (r : Report) (k : ℕ) (h : Held) → h.key ≡ k → held_at held k ≡ Some h → held_at (after_report_held held r) k ≡ Some (if h.key == r.key then reported_held h r else h)
-report-held [] r k h key at = absurd (none-some h at)
-report-held (x ∷ held) r k h key at = report-go x held r k h (x.key == r.key) (x.key == k) refl refl key at (report-held held r k h key)
-
 -- where a source stands after these reports
 abbrev pub GoesOnBy : List Held → List Report → ℕ → Held → Type 0
 GoesOnBy held reports k h = (h' : Held) × (held_at (after_reports_held held reports) k ≡ Some h') × (h'.wire ≡ h.wire) ×
@@ -449,16 +436,25 @@ due-held (x ∷ held) reports k w h at own due = due-go (x.key == k) refl (λ th
   due-go false e ih = or_right ((x.wire == w) && is_due reports x) (due_at held reports w) (ih (rw e at at))
 
 round-moves : (w : ℕ) (q : List Event) (r : Round) (woken : List ℕ) → AreDue (registry [] q) (reports_of r.answer) woken → Moves w [] woken q (q ++ round_events (registry [] q) r)
-round-moves w q r woken due k h dir at own (inr none) = absurd (both_ways (is_in w []) refl none)
-round-moves w q r woken due k h dir at own (inl up) = moves-on (reports-on (registry [] q) (reports_of r.answer) k h (held-key (registry [] q) k h at) at) where
+round-moves w q r woken due k h dir at own armed (inr none) = absurd (both_ways (is_in w []) refl none)
+round-moves w q r woken due k h dir at own armed (inl up) = moves-on (reports-on (registry [] q) (reports_of r.answer) k h (held-key (registry [] q) k h at) at) where
   due-on : (h' : Held) → (waits (side_held dir h') ≡ true) ⊎ (is_due (reports_of r.answer) h ≡ true) → (waits (side_held dir h') ≡ true) ⊎ (is_in w woken ≡ true)
   due-on h' (inl stays) = inl stays
   due-on h' (inr is) = inr (due.each w ∙ due-held (registry [] q) (reports_of r.answer) k w h at own is)
 
+  armed-on : (h' : Held) → held_at (after_reports_held (registry [] q) (reports_of r.answer)) k ≡ Some h' → ArmsAll k (q ++ round_events (registry [] q) r) h'
+  armed-on h' at' d wait =
+      let told' : List Event = round_told None r in
+      let again : List Event = rearming (registry [] q) (reports_of r.answer) in
+      armed-append k d false q (told' ++ again)
+      ∙ (armed-append k d (is_armed k d false q) told' again
+      ∙ (ap (λ y. is_armed k d y again) (told-arms-none r r.second k d (is_armed k d false q) refl)
+      ∙ rearms (registry [] q) (reports_of r.answer) k h h' d (is_armed k d false q) (held-key (registry [] q) k h at) at at' wait (armed d)))
+
   moves-on : GoesOnBy (registry [] q) (reports_of r.answer) k h →
-      (h' : Held) × (held_at (registry [] (q ++ round_events (registry [] q) r)) k ≡ Some h') × (h'.wire ≡ w) × ((waits (side_held dir h') ≡ true) ⊎ (is_in w woken ≡ true))
+      (h' : Held) × (held_at (registry [] (q ++ round_events (registry [] q) r)) k ≡ Some h') × (h'.wire ≡ w) × ArmsAll k (q ++ round_events (registry [] q) r) h' × ((waits (side_held dir h') ≡ true) ⊎ (is_in w woken ≡ true))
   moves-on (h', at', wired, next) =
-      (h', ap (λ z. held_at z k) (registry-append [] q (round_events (registry [] q) r) ∙ round-held r (registry [] q)) ∙ at', wired ∙ own, due-on h' (next dir up))
+      (h', ap (λ z. held_at z k) (registry-append [] q (round_events (registry [] q) r) ∙ round-held r (registry [] q)) ∙ at', wired ∙ own, armed-on h' at', due-on h' (next dir up))
 
 shown-some : (sources : List (ℕ × Source)) → sources ≢ [] → map shown sources ≢ []
 shown-some [] some = absurd (some refl)

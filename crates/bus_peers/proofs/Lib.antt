@@ -7,6 +7,7 @@ pub mod WaitLemmas
 pub mod Registries
 pub mod Links
 pub mod Keeps
+pub mod Armings
 pub mod TagLemmas
 pub mod Talks
 pub mod Readies

@@ -1,5 +1,6 @@
 -- A poll changes the sources exactly as the record shows.
-use Rattle.std.proofs.Common.{◌≡◌, ◌≢◌, ◌<◌, ◌≤◌, ℕ, Bool, true, false, nat_lt, ◌==◌, if◌then◌else◌, List, [], ◌∷◌, map, Option, Some, None, refl, sym, ◌∙◌, ap, subst, arith}
+use Rattle.std.proofs.Common.{◌≡◌, ◌≢◌, ℕ, Bool, true, false, nat_lt, ◌==◌, if◌then◌else◌, List, [], ◌∷◌, map, Option, Some, None, refl, sym, ◌∙◌, ap, subst, arith}
+use Rattle.std.proofs.lemmas.Bool.{eq-eqb, eqb-true, le-ltb, lt-ltb, ne_eqb}
 use Rattle.std.proofs.lemmas.Grind.{common_steps}
 use Rattle.react_core.specs.declared.reactor.Dir.{Dir}
 use Rattle.react_core.specs.declared.reactor.Dir.TheVariants.{Read, Write}
@@ -11,21 +12,12 @@ use Rattle.react_core.specs.Sources.{source_of, with_source, side, with_side}
 use Rattle.react_core.specs.Readiness.{Fires, place_outcome, waiting_outcome, after_source_poll}
 use Rattle.bus_peers.specs.Registry.{Side, Idle, Waits, Reported, side_held, Held, noted, stopped_held, Apart, Distinct}
 use Rattle.bus_peers.specs.Shown.{shown, side_of, place_side, task_side, poll_of, Sane, SanePlace, SaneTask}
-use Rattle.bus_peers.proofs.Registries.{shown_at, same_key}
-
-lt_false : (a b : ℕ) → b ≤ a → nat_lt a b ≡ false
-lt_false a b le = grind (arith, common_steps)
-
-lt_true : (a b : ℕ) → a < b → nat_lt a b ≡ true
-lt_true a b lt = grind (arith, common_steps)
-
-pub eq_true : (a b : ℕ) → a ≡ b → (a == b) ≡ true
-eq_true a b e = grind (arith, common_steps)
+use Rattle.bus_peers.proofs.Registries.{shown_at}
 
 poll_task : (task reported since : ℕ) (o : Option ℕ) → SaneTask task reported since o →
     (if nat_lt since reported then Fires else waiting_outcome task o) ≡ poll_of (task_side o)
-poll_task task reported since None lt = rw (lt_true since reported lt) refl
-poll_task task reported since (Some stored) (is, le) = rw (lt_false since reported le, eq_true stored task is) refl
+poll_task task reported since None lt = rw (lt-ltb since reported lt) refl
+poll_task task reported since (Some stored) (is, le) = rw (le-ltb since reported le, eq-eqb stored task is) refl
 
 poll_place : (task reported last : ℕ) (o : Option Waiting) → SanePlace task reported last o → place_outcome task reported o ≡ poll_of (place_side o)
 poll_place task reported last None sane = refl
@@ -52,9 +44,6 @@ pub apart-source : (wire : ℕ) (sources : List (ℕ × Source)) (key : ℕ) (s 
 apart-source wire [] key s apart is = cc
 apart-source wire (x ∷ sources) key s apart is = apart_other wire x sources key s (x.0 == key) refl apart.0 is (apart-source wire sources key s apart.1)
 
-pub not_same : (a b : ℕ) → a ≢ b → (a == b) ≡ false
-not_same a b ne = grind (arith, common_steps)
-
 go : (dir : Dir) (x : ℕ × Source) (sources : List (ℕ × Source)) (key : ℕ) (s new : Source) (b : Bool) → (x.0 == key) ≡ b → source_of (x ∷ sources) key ≡ Some s → shown_at key new ≡ stopped_held dir (shown_at key s) →
     Distinct (map shown (x ∷ sources)) →
     (source_of sources key ≡ Some s → map shown (with_source sources key new) ≡ noted s.wire dir (map shown sources)) →
@@ -63,14 +52,14 @@ go dir x sources key s new true e is same distinct ih =
     let here : Some x.1 ≡ Some s = rw e at is in
     let f : x.1 ≡ s = cc in
     let apart : Apart s.wire (map shown sources) = subst (λ y. Apart y.wire (map shown sources)) f distinct.0 in
-    let hit : (x.1.wire == s.wire) ≡ true = eq_true x.1.wire s.wire (ap (λ y. y.wire) f) in
-    let at : shown_at key s ≡ shown x = ap (λ k. shown (k, s)) (sym (same_key x.0 key e)) ∙ ap (λ y. shown (x.0, y)) (sym f) in
+    let hit : (x.1.wire == s.wire) ≡ true = eq-eqb x.1.wire s.wire (ap (λ y. y.wire) f) in
+    let at : shown_at key s ≡ shown x = ap (λ k. shown (k, s)) (sym (eqb-true x.0 key e)) ∙ ap (λ y. shown (x.0, y)) (sym f) in
     let now : shown_at key new ≡ stopped_held dir (shown x) = same ∙ ap (stopped_held dir) at in
     rw (e, hit, noted-apart s.wire dir (map shown sources) apart) (ap (λ h. h ∷ map shown sources) now)
 go dir x sources key s new false e is same distinct ih =
     let there : source_of sources key ≡ Some s = rw e at is in
     let other : s.wire ≢ x.1.wire = apart-source x.1.wire sources key s distinct.0 there in
-    let off : (x.1.wire == s.wire) ≡ false = not_same x.1.wire s.wire (λ f. other (sym f)) in
+    let off : (x.1.wire == s.wire) ≡ false = ne_eqb x.1.wire s.wire (λ f. other (sym f)) in
     rw (e, ih there, off) refl
 
 pub with_source-noted : (dir : Dir) (sources : List (ℕ × Source)) (key : ℕ) (s new : Source) → source_of sources key ≡ Some s → shown_at key new ≡ stopped_held dir (shown_at key s) →
@@ -84,7 +73,7 @@ go_self : (x : ℕ × Source) (sources : List (ℕ × Source)) (key : ℕ) (s : 
 go_self x sources key s true e is ih =
     let here : Some x.1 ≡ Some s = rw e at is in
     let f : x.1 ≡ s = cc in
-    rw e (ap (λ k. (k, s) ∷ sources) (sym (same_key x.0 key e)) ∙ ap (λ y. (x.0, y) ∷ sources) (sym f))
+    rw e (ap (λ k. (k, s) ∷ sources) (sym (eqb-true x.0 key e)) ∙ ap (λ y. (x.0, y) ∷ sources) (sym f))
 go_self x sources key s false e is ih = rw (e, ih (rw e at is)) refl
 
 pub with_source-self : (sources : List (ℕ × Source)) (key : ℕ) (s : Source) → source_of sources key ≡ Some s → with_source sources key s ≡ sources

@@ -1,5 +1,6 @@
 -- A stop, as the reactor's poll notes it.
 use Rattle.std.proofs.Common.{◌≡◌, ◌<◌, ◌+◌, ◌-◌, ◌^◌, ℕ, Bool, true, false, ◌||◌, ◌==◌, if◌then◌else◌, List, [], ◌∷◌, length, map, min, Option, Some, None, Ok, refl, sym, ◌∙◌, ap, subst, arith}
+use Rattle.std.proofs.lemmas.Bool.{eq-eqb}
 use Rattle.std.specs.Option.{option_map}
 use Rattle.futures.specs.declared.task.Poll.{Poll}
 use Rattle.react_core.specs.declared.outside.Event.{Event}
@@ -20,7 +21,7 @@ use Rattle.bus_peers.specs.Shown.{shown, side_of, poll_of, Sane, SaneSource, All
 use Rattle.bus_peers.specs.Visited.{Holds, Readied, arms_told, asks_again}
 use Rattle.bus_peers.proofs.Registries.{shown_at, waits_place, held_at-shown}
 use Rattle.bus_peers.proofs.TagLemmas.{tags-with_source}
-use Rattle.bus_peers.proofs.Links.{eq_true, poll-by, poll-noted}
+use Rattle.bus_peers.proofs.Links.{poll-by, poll-noted}
 
 go_sane : (round last : ℕ) (x : ℕ × Source) (sources : List (ℕ × Source)) (key : ℕ) (s : Source) (b : Bool) → (x.0 == key) ≡ b → SaneSource round last x.1 → source_of (x ∷ sources) key ≡ Some s →
     (source_of sources key ≡ Some s → SaneSource round last s) → SaneSource round last s
@@ -97,7 +98,7 @@ poll-made core key dir s task Idle = refl
 poll-made core key dir s task Waits = refl
 poll-made core key dir s task Reported = refl
 
-begun-still : (n : ℕ) → n < 2 ^ 64 → n ≡ after_begun n 0
+pub begun-still : (n : ℕ) → n < 2 ^ 64 → n ≡ after_begun n 0
 begun-still n lt = omega arith
 
 begun-fits : (n : ℕ) → min (n + 1) (2 ^ 64 - 1) < 2 ^ 64
@@ -158,7 +159,7 @@ held_noted_go : (wire key : ℕ) (dir : Dir) (x : Held) (held : List Held) (h : 
 held_noted_go wire key dir x held h true e is own ih =
     let here : Some x ≡ Some h = rw e at is in
     let f : x ≡ h = cc in
-    let g : (x.wire == wire) ≡ true = eq_true x.wire wire (ap (λ y. y.wire) f ∙ own) in
+    let g : (x.wire == wire) ≡ true = eq-eqb x.wire wire (ap (λ y. y.wire) f ∙ own) in
     rw (g, stopped-key dir x, e, f) refl
 held_noted_go wire key dir x held h false e is own ih =
     rw (note-key dir x (x.wire == wire), e) (ih (rw e at is))

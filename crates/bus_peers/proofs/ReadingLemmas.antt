@@ -1,6 +1,6 @@
 -- What is known of a script that is read.
 use Rattle.std.proofs.Common.{◌≡◌, ℕ, ◌+◌, ◌<◌, ◌≤◌, ◌^◌, Bool, true, false, not, ◌&&◌, List, [], ◌∷◌, ◌++◌, length, map, Option, Some, None, Result, Ok, Err, refl, sym, ap, ◌∙◌, subst, if◌then◌else◌, arith, inl, inr, nat_lt}
-use Rattle.std.specs.Prelude.{is_ok, is_none, is_some, fold, ◌==◌}
+use Rattle.std.specs.Prelude.{is_ok, is_none, is_some, ◌==◌}
 use Rattle.std.specs.List.{list_all}
 use Rattle.std.specs.Result.{result_unwrap_or}
 use Rattle.std.proofs.lemmas.List.Folds.{list_all-append}
@@ -19,8 +19,6 @@ use Rattle.bus_script.specs.declared.line.Reason.TheVariants.{NotBuilt}
 use Rattle.bus_script.specs.Shape.{Say, lines_of, rounds_lines, start_lines}
 use Rattle.bus_script.specs.declared.line.Line.{Line}
 use Rattle.bus_script.specs.declared.line.Line.TheVariants as line
-use Rattle.bus_script.specs.declared.line.Answer.{Answer}
-use Rattle.bus_script.specs.declared.line.Answer.TheVariants as answer
 use Rattle.bus_script.specs.declared.line.SessionLine.{SessionLine}
 use Rattle.bus_script.specs.declared.line.SessionLine.TheVariants as session_line
 use Rattle.bus_peers.specs.Sessions.{goes_by_external, is_built}

@@ -1,5 +1,6 @@
 -- The reactor's sources and the registry that the record shows are the same.
 use Rattle.std.proofs.Common.{◌≡◌, ℕ, Bool, true, false, ◌||◌, nat_lt, ◌==◌, if◌then◌else◌, List, [], ◌∷◌, ◌++◌, map, Option, Some, None, is_some, refl, sym, ◌∙◌, ap, arith}
+use Rattle.std.proofs.lemmas.Bool.{eqb-true}
 use Rattle.std.proofs.lemmas.Grind.{common_steps}
 use Rattle.std.proofs.lemmas.List.{map-append}
 use Rattle.std.specs.Option.{option_map}
@@ -16,12 +17,9 @@ use Rattle.bus_peers.specs.Shown.{side_of, place_side, task_side, shown}
 abbrev pub shown_at : ℕ → Source → Held
 shown_at key s = shown (key, s)
 
-pub same_key : (a b : ℕ) → (a == b) ≡ true → a ≡ b
-same_key a b e = grind (arith, common_steps)
-
 held_go : (s : ℕ × Source) (sources : List (ℕ × Source)) (key : ℕ) (b : Bool) → (s.0 == key) ≡ b → held_at (map shown sources) key ≡ option_map (shown_at key) (source_of sources key) →
     held_at (map shown (s ∷ sources)) key ≡ option_map (shown_at key) (source_of (s ∷ sources) key)
-held_go s sources key true e ih = rw e (ap (λ k. Some (shown (k, s.1))) (same_key s.0 key e))
+held_go s sources key true e ih = rw e (ap (λ k. Some (shown (k, s.1))) (eqb-true s.0 key e))
 held_go s sources key false e ih = rw e ih
 
 pub held_at-shown : (sources : List (ℕ × Source)) (key : ℕ) → held_at (map shown sources) key ≡ option_map (shown_at key) (source_of sources key)
@@ -81,7 +79,7 @@ here_or_later : (t : ℕ) (s : ℕ × Source) (sources : List (ℕ × Source)) (
     map shown (after_report t sources r) ≡ after_report_held (map shown sources) r →
     map shown (after_report t (s ∷ sources) r) ≡ after_report_held (map shown (s ∷ sources)) r
 here_or_later t s sources r true e ih =
-    let at : shown_at r.key s.1 ≡ shown s = ap (λ k. shown (k, s.1)) (sym (same_key s.0 r.key e)) in
+    let at : shown_at r.key s.1 ≡ shown s = ap (λ k. shown (k, s.1)) (sym (eqb-true s.0 r.key e)) in
     let here : shown_at r.key (reported t r s.1) ≡ reported_held (shown s) r = reported-shown t r r.key s.1 ∙ ap (λ h. reported_held h r) at in
     rw (e, e, here) refl
 here_or_later t s sources r false e ih = rw (e, later t s sources r (source_of sources r.key) e, ih) refl

@@ -1,5 +1,6 @@
 -- What a round wakes, and what the record shows of it.
-use Rattle.std.proofs.Common.{◌≡◌, ◌<◌, ◌≤◌, ◌+◌, ℕ, zero, suc, Bool, true, false, ◌||◌, ◌&&◌, eqb, ◌==◌, if◌then◌else◌, List, [], ◌∷◌, ◌++◌, length, map, Option, Some, None, Result, Ok, Err, IsErrAnd, slice_index, slice_index_or, nat_cmp, IsSorted, IsPermutation, Decides, refl, sym, ◌∙◌, ap, subst, arith}
+use Rattle.std.proofs.Common.{◌≡◌, ◌<◌, ◌≤◌, ◌+◌, ℕ, zero, suc, Bool, true, false, ◌||◌, ◌&&◌, eqb, ◌==◌, List, [], ◌∷◌, ◌++◌, length, map, Option, Some, None, Result, Ok, Err, IsErrAnd, slice_index, slice_index_or, nat_cmp, IsSorted, IsPermutation, Decides, refl, sym, ◌∙◌, ap, subst, arith}
+use Rattle.std.proofs.lemmas.Bool.{eqb-true, or_parts}
 use Rattle.std.proofs.lemmas.Grind.{common_steps}
 use Rattle.std.proofs.lemmas.Bool.Decides.{same_from_decides}
 use Rattle.std.proofs.lemmas.List.{append_assoc, append-nil}
@@ -12,7 +13,6 @@ use Rattle.std.specs.List.{Contains, dedup, list_any}
 use Rattle.std.specs.List.Retain.{IsFiltered, DiffersFromLast}
 use Rattle.std.specs.List.Sorted.{IsStrictlyIncreasing}
 use Rattle.react_core.specs.declared.outside.Event.{Event}
-use Rattle.react_core.specs.declared.outside.Event.TheVariants as event
 use Rattle.react_core.specs.declared.outside.Report.{Report}
 use Rattle.react_core.specs.declared.outside.WaitAnswer.{WaitAnswer}
 use Rattle.react_core.specs.declared.outside.WaitAnswer.TheVariants as wait_answer
@@ -39,9 +39,10 @@ use Rattle.bus_peers.specs.Rounds.{WokenBy, Rounded}
 use Rattle.bus_peers.specs.Settled.{is_in, is_due, due_at, round_events, waits_in}
 use Rattle.bus_peers.specs.Slots.{Told, Refuses, RefusedAt}
 use Rattle.bus_peers.specs.Shown.{shown, side_of, place_side, Sane, SanePlace, SaneTask, SaneSource, AllSane, Rests, tags}
-use Rattle.bus_peers.proofs.Registries.{same_key, rearming-shown, after_report-shown, after_reports-shown}
+use Rattle.bus_peers.proofs.Registries.{rearming-shown, after_report-shown, after_reports-shown}
 use Rattle.bus_peers.proofs.Readies.{sane-at, sane-with}
 use Rattle.bus_peers.proofs.TagLemmas.{tags-after_reports}
+use Rattle.bus_peers.proofs.Armings.{arming-quiet, arming-apart}
 use Rattle.bus_peers.proofs.Talks.{registry-append, part-append, waits_in-append}
 
 -- ---- each once and in order
@@ -53,7 +54,7 @@ later_in : (x : ℕ) (xs : List ℕ) (w : ℕ) → Contains xs w → Contains (x
 later_in x xs w (k, lt, at) = (suc k, omega arith, at)
 
 in_go : (w x : ℕ) (xs : List ℕ) (b : Bool) → (x == w) ≡ b → is_in w (x ∷ xs) ≡ true → (is_in w xs ≡ true → Contains xs w) → Contains (x ∷ xs) w
-in_go w x xs true e is ih = (0, omega arith, same_key x w e)
+in_go w x xs true e is ih = (0, omega arith, eqb-true x w e)
 in_go w x xs false e is ih = later_in x xs w (ih (rw e at is))
 
 contains_from_in : (w : ℕ) (xs : List ℕ) → is_in w xs ≡ true → Contains xs w
@@ -98,13 +99,9 @@ in-order old sorted new same order filtered =
 
 -- ---- the re-arming changes nothing that waits
 
-arming_go : (h : Held) (held : List Held) (b : Bool) → registry held (if b then event.Modify h.wire h.key (waits h.read) (waits h.write) true ∷ [] else []) ≡ held
-arming_go h held true = refl
-arming_go h held false = refl
-
 rearming_of-quiet : (o : Option Held) (r : Report) (held : List Held) → registry held (rearming_of o r) ≡ held
 rearming_of-quiet None r held = refl
-rearming_of-quiet (Some h) r held = arming_go (reported_held h r) held (waits (reported_held h r).read || waits (reported_held h r).write)
+rearming_of-quiet (Some h) r held = arming-quiet (reported_held h r) held
 
 pub rearming-quiet : (now : List Held) (reports : List Report) (held : List Held) → registry held (rearming now reports) ≡ held
 rearming-quiet now [] held = refl
@@ -199,10 +196,6 @@ or_false : (x : Bool) → (x || false) ≡ x
 or_false true = refl
 or_false false = refl
 
-neither : (a b : Bool) → (a || b) ≡ false → (a ≡ false) × (b ≡ false)
-neither true b e = cc
-neither false b e = (refl, e)
-
 told-side : (b : Bool) (s : Side) → (b && waits s) ≡ false → waits (told_of b s) ≡ waits s
 told-side false s e = refl
 told-side true Idle e = refl
@@ -212,7 +205,7 @@ told-side true Reported e = refl
 -- a report that names no waiting direction leaves what is due by the next ones
 due-kept : (h : Held) (r : Report) (reports : List Report) → ((r.read && waits h.read) || (r.write && waits h.write)) ≡ false → is_due reports (reported_held h r) ≡ is_due reports h
 due-kept h r reports e =
-    let n : ((r.read && waits h.read) ≡ false) × ((r.write && waits h.write) ≡ false) = neither (r.read && waits h.read) (r.write && waits h.write) e in
+    let n : ((r.read && waits h.read) ≡ false) × ((r.write && waits h.write) ≡ false) = or_parts (r.read && waits h.read) (r.write && waits h.write) e in
     let W : Bool → Bool → Bool = λ p q. list_any (λ next. (next.key == h.key) && ((next.read && p) || (next.write && q))) reports in
     ap (λ p. W p (waits (told_of r.write h.write))) (told-side r.read h.read n.0) ∙ ap (λ q. W (waits h.read) q) (told-side r.write h.write n.1)
 
@@ -257,7 +250,7 @@ due_go : (low w : ℕ) (h : Held) (held : List Held) (r : Report) (reports : Lis
     due_at held (r ∷ reports) w ≡ (named_at held r w || due_at (after_report_held held r) reports w) →
     due_at (h ∷ held) (r ∷ reports) w ≡ (named_at (h ∷ held) r w || due_at (after_report_held (h ∷ held) r) reports w)
 due_go low w h held r reports true e up ih =
-    let k : h.key ≡ r.key = same_key h.key r.key e in
+    let k : h.key ≡ r.key = eqb-true h.key r.key e in
     let lt : r.key < h.key + 1 = omega arith in
     let same : named r h ≡ false → is_due reports (reported_held h r) ≡ is_due reports h = λ off. due-kept h r reports (named_false h r (flip_true h.key r.key e) off) in
     rw (e, undue (h.key + 1) w held r reports up.1 lt, unnamed (h.key + 1) w held r up.1 lt)
@@ -320,7 +313,7 @@ taken_source w round last r s sane =
 taken_go : (w round last low : ℕ) (s : ℕ × Source) (sources : List (ℕ × Source)) (r : Report) (b : Bool) → (s.0 == r.key) ≡ b → SaneSource round last s.1 → Rising low (map shown (s ∷ sources)) →
     is_in w (taken_by sources r) ≡ named_at (map shown sources) r w → is_in w (taken_by (s ∷ sources) r) ≡ named_at (map shown (s ∷ sources)) r w
 taken_go w round last low s sources r true e sane up ih =
-    let k : s.0 ≡ r.key = same_key s.0 r.key e in
+    let k : s.0 ≡ r.key = eqb-true s.0 r.key e in
     let lt : r.key < s.0 + 1 = omega arith in
     rw (e, flip_true s.0 r.key e, unnamed (s.0 + 1) w (map shown sources) r up.1 lt) (taken_source w round last r s.1 sane ∙ sym (or_false _))
 taken_go w round last low s sources r false e sane up ih = rw (e, flip_false s.0 r.key e, and_false (s.1.wire == w)) ih
@@ -473,13 +466,9 @@ round-refused (Err x) r0 r1 m0 m1 old new wakes wakes' e is ran same numbered cl
 
 -- ---- a round leaves each session where it stands
 
-arming_apart : (w : ℕ) (h : Held) (b : Bool) → part w (if b then event.Modify h.wire h.key (waits h.read) (waits h.write) true ∷ [] else []) ≡ []
-arming_apart w h true = refl
-arming_apart w h false = refl
-
 rearming_of-apart : (w : ℕ) (o : Option Held) (r : Report) → part w (rearming_of o r) ≡ []
 rearming_of-apart w None r = refl
-rearming_of-apart w (Some h) r = arming_apart w (reported_held h r) (waits (reported_held h r).read || waits (reported_held h r).write)
+rearming_of-apart w (Some h) r = arming-apart (reported_held h r) w
 
 rearming-apart : (w : ℕ) (held : List Held) (reports : List Report) → part w (rearming held reports) ≡ []
 rearming-apart w held [] = refl

@@ -1,5 +1,6 @@
 -- Which wire is registered under which key: in the reactor's sources, and as the record shows it.
-use Rattle.std.proofs.Common.{◌≡◌, ◌≢◌, ◌<◌, ◌≤◌, ℕ, Bool, true, false, ◌||◌, ◌&&◌, nat_lt, ◌==◌, if◌then◌else◌, List, [], ◌∷◌, map, Option, Some, None, IsSome, refl, sym, ◌∙◌, ap, arith}
+use Rattle.std.proofs.Common.{◌≡◌, ◌≢◌, ◌<◌, ◌≤◌, ℕ, Bool, true, false, ◌||◌, nat_lt, ◌==◌, if◌then◌else◌, List, [], ◌∷◌, map, Option, Some, None, IsSome, refl, sym, ◌∙◌, ap, arith}
+use Rattle.std.proofs.lemmas.Bool.{and_parts, eq-eqb, eqb-false, eqb-true, lt-ltb, ltb-true, ne_eqb, or_parts, or_right}
 use Rattle.std.proofs.lemmas.Grind.{common_steps}
 use Rattle.std.specs.Option.{option_map}
 use Rattle.react_core.specs.declared.outside.Report.{Report}
@@ -9,39 +10,9 @@ use Rattle.react_core.specs.Reports.{after_report, after_report_of, after_report
 use Rattle.bus_peers.specs.Registry.{Held, held_at, Apart, Distinct}
 use Rattle.bus_peers.specs.Shown.{shown, Tags, tags, tag_at, without_tag, has_wire, Single, are_below}
 
-is_same : (a b : ℕ) → (a == b) ≡ true → a ≡ b
-is_same a b e = grind (arith, common_steps)
-
-same_number : (a b : ℕ) → a ≡ b → (a == b) ≡ true
-same_number a b e = grind (arith, common_steps)
-
-not_same : (a b : ℕ) → a ≢ b → (a == b) ≡ false
-not_same a b ne = grind (arith, common_steps)
-
-is_other : (a b : ℕ) → (a == b) ≡ false → a ≢ b
-is_other a b e = grind (arith, common_steps)
-
-lt_true : (a b : ℕ) → a < b → nat_lt a b ≡ true
-lt_true a b lt = grind (arith, common_steps)
-
-is_less : (a b : ℕ) → nat_lt a b ≡ true → a < b
-is_less a b e = grind (arith, common_steps)
-
-or_right : (a b : Bool) → b ≡ true → (a || b) ≡ true
-or_right true b e = refl
-or_right false b e = e
-
 below_go : (n wire w : ℕ) (more b : Bool) → (w == wire) ≡ b → ((w == wire) || more) ≡ true → nat_lt w n ≡ true → (more ≡ true → wire < n) → wire < n
-below_go n wire w more true e is low ih = let f : w ≡ wire = is_same w wire e in let g : w < n = is_less w n low in omega arith
+below_go n wire w more true e is low ih = let f : w ≡ wire = eqb-true w wire e in let g : w < n = ltb-true w n low in omega arith
 below_go n wire w more false e is low ih = ih (rw e at is)
-
-neither : (a b : Bool) → (a || b) ≡ false → (a ≡ false) × (b ≡ false)
-neither true b e = cc
-neither false b e = (refl, e)
-
-both : (a b : Bool) → (a && b) ≡ true → (a ≡ true) × (b ≡ true)
-both true b e = (refl, e)
-both false b e = cc
 
 -- ---- a source under its key, and the tag of the key
 
@@ -50,7 +21,7 @@ with_go : (x : ℕ × Source) (sources : List (ℕ × Source)) (key : ℕ) (s ne
 with_go x sources key s new true e at same ih =
     let here : Some x.1 ≡ Some s = rw e at at in
     let f : x.1 ≡ s = cc in
-    let k : x.0 ≡ key = is_same x.0 key e in
+    let k : x.0 ≡ key = eqb-true x.0 key e in
     let w : new.wire ≡ x.1.wire = same ∙ ap (λ y. y.wire) (sym f) in
     rw (e, w, k) refl
 with_go x sources key s new false e at same ih = rw (e, ih (rw e at at)) refl
@@ -130,11 +101,11 @@ tag-held sources key wire at = held_by (held_at (map shown sources) key) wire (s
 
 pub has_wire-apart : (wire : ℕ) (sources : List (ℕ × Source)) → has_wire wire (tags sources) ≡ false → Apart wire (map shown sources)
 has_wire-apart wire [] e = tt
-has_wire-apart wire (x ∷ sources) e = let p = neither (x.1.wire == wire) (has_wire wire (tags sources)) e in (is_other x.1.wire wire p.0, has_wire-apart wire sources p.1)
+has_wire-apart wire (x ∷ sources) e = let p = or_parts (x.1.wire == wire) (has_wire wire (tags sources)) e in (eqb-false x.1.wire wire p.0, has_wire-apart wire sources p.1)
 
 pub apart-has_wire : (wire : ℕ) (sources : List (ℕ × Source)) → Apart wire (map shown sources) → has_wire wire (tags sources) ≡ false
 apart-has_wire wire [] apart = refl
-apart-has_wire wire (x ∷ sources) apart = rw (not_same x.1.wire wire apart.0) (apart-has_wire wire sources apart.1)
+apart-has_wire wire (x ∷ sources) apart = rw (ne_eqb x.1.wire wire apart.0) (apart-has_wire wire sources apart.1)
 
 pub distinct-single : (sources : List (ℕ × Source)) → Distinct (map shown sources) → Single (tags sources)
 distinct-single [] distinct = tt
@@ -146,7 +117,7 @@ single-distinct (x ∷ sources) single = (has_wire-apart x.1.wire sources single
 
 -- the wire of a key is there
 has_go : (t : ℕ × ℕ) (ts : Tags) (key wire : ℕ) (b : Bool) → (t.0 == key) ≡ b → tag_at (t ∷ ts) key ≡ Some wire → (tag_at ts key ≡ Some wire → has_wire wire ts ≡ true) → has_wire wire (t ∷ ts) ≡ true
-has_go t ts key wire true e at ih = let here : Some t.1 ≡ Some wire = rw e at at in let f : t.1 ≡ wire = cc in rw (same_number t.1 wire f) refl
+has_go t ts key wire true e at ih = let here : Some t.1 ≡ Some wire = rw e at at in let f : t.1 ≡ wire = cc in rw (eq-eqb t.1 wire f) refl
 has_go t ts key wire false e at ih = let there : has_wire wire ts ≡ true = ih (rw e at at) in or_right (t.1 == wire) (has_wire wire ts) there
 
 pub tag-has_wire : (ts : Tags) (key wire : ℕ) → tag_at ts key ≡ Some wire → has_wire wire ts ≡ true
@@ -157,7 +128,7 @@ tag-has_wire (t ∷ ts) key wire at = has_go t ts key wire (t.0 == key) refl at 
 pub has_wire-below : (n wire : ℕ) (ts : Tags) → has_wire wire ts ≡ true → are_below n ts ≡ true → wire < n
 has_wire-below n wire [] e below = cc
 has_wire-below n wire (t ∷ ts) e below =
-    let p = both (nat_lt t.1 n) (are_below n ts) below in
+    let p = and_parts (nat_lt t.1 n) (are_below n ts) below in
     below_go n wire t.1 (has_wire wire ts) (t.1 == wire) refl e p.0 (λ there. has_wire-below n wire ts there p.1)
 
 pub tag-below : (n : ℕ) (ts : Tags) (key wire : ℕ) → tag_at ts key ≡ Some wire → are_below n ts ≡ true → wire < n
@@ -169,7 +140,7 @@ true_false e = cc
 -- one wire has one key
 key_go : (t : ℕ × ℕ) (ts : Tags) (key k wire : ℕ) (b c : Bool) → (t.0 == key) ≡ b → (t.0 == k) ≡ c → has_wire t.1 ts ≡ false → tag_at (t ∷ ts) key ≡ Some wire → tag_at (t ∷ ts) k ≡ Some wire →
     (tag_at ts key ≡ Some wire → tag_at ts k ≡ Some wire → key ≡ k) → key ≡ k
-key_go t ts key k wire true true e f alone at at' ih = sym (is_same t.0 key e) ∙ is_same t.0 k f
+key_go t ts key k wire true true e f alone at at' ih = sym (eqb-true t.0 key e) ∙ eqb-true t.0 k f
 key_go t ts key k wire true false e f alone at at' ih =
     let here : Some t.1 ≡ Some wire = rw e at at in
     let w : t.1 ≡ wire = cc in
@@ -188,8 +159,8 @@ single-key (t ∷ ts) key k wire single at at' = key_go t ts key k wire (t.0 == 
 
 -- what is not there is not there without a key
 gone_go : (t : ℕ × ℕ) (ts : Tags) (key w : ℕ) (b : Bool) → (t.0 == key) ≡ b → has_wire w (t ∷ ts) ≡ false → (has_wire w ts ≡ false → has_wire w (without_tag ts key) ≡ false) → has_wire w (without_tag (t ∷ ts) key) ≡ false
-gone_go t ts key w true e none ih = rw e ((neither (t.1 == w) (has_wire w ts) none).1)
-gone_go t ts key w false e none ih = let p = neither (t.1 == w) (has_wire w ts) none in rw (e, p.0) (ih p.1)
+gone_go t ts key w true e none ih = rw e ((or_parts (t.1 == w) (has_wire w ts) none).1)
+gone_go t ts key w false e none ih = let p = or_parts (t.1 == w) (has_wire w ts) none in rw (e, p.0) (ih p.1)
 
 pub no_wire-without : (ts : Tags) (key w : ℕ) → has_wire w ts ≡ false → has_wire w (without_tag ts key) ≡ false
 no_wire-without [] key w none = refl
@@ -204,7 +175,7 @@ without_go t ts key wire true e alone at ih =
 without_go t ts key wire false e alone at ih =
     let there : tag_at ts key ≡ Some wire = rw e at at in
     let other : t.1 ≢ wire = λ f. true_false (sym (tag-has_wire ts key wire there) ∙ (ap (λ x. has_wire x ts) (sym f) ∙ alone)) in
-    rw (e, not_same t.1 wire other) (ih there)
+    rw (e, ne_eqb t.1 wire other) (ih there)
 
 -- the wire of the key is gone
 pub has_wire-without : (ts : Tags) (key wire : ℕ) → Single ts → tag_at ts key ≡ Some wire → has_wire wire (without_tag ts key) ≡ false
@@ -216,7 +187,7 @@ stay_go : (t : ℕ × ℕ) (ts : Tags) (key wire w : ℕ) (b : Bool) → (t.0 ==
 stay_go t ts key wire w true e at other ih =
     let here : Some t.1 ≡ Some wire = rw e at at in
     let f : t.1 ≡ wire = cc in
-    let off : (t.1 == w) ≡ false = not_same t.1 w (λ g. other (sym g ∙ f)) in
+    let off : (t.1 == w) ≡ false = ne_eqb t.1 w (λ g. other (sym g ∙ f)) in
     rw (e, off) refl
 stay_go t ts key wire w false e at other ih = rw (e, ih (rw e at at)) refl
 
@@ -226,7 +197,7 @@ other_wire-without [] key wire w at other = refl
 other_wire-without (t ∷ ts) key wire w at other = stay_go t ts key wire w (t.0 == key) refl at other (λ there. other_wire-without ts key wire w there other)
 
 tag_go : (t : ℕ × ℕ) (ts : Tags) (key k : ℕ) (b c : Bool) → (t.0 == key) ≡ b → (t.0 == k) ≡ c → k ≢ key → tag_at (without_tag ts key) k ≡ tag_at ts k → tag_at (without_tag (t ∷ ts) key) k ≡ tag_at (t ∷ ts) k
-tag_go t ts key k true true e f other ih = absurd (other (sym (is_same t.0 k f) ∙ is_same t.0 key e))
+tag_go t ts key k true true e f other ih = absurd (other (sym (eqb-true t.0 k f) ∙ eqb-true t.0 key e))
 tag_go t ts key k true false e f other ih = rw (e, f) refl
 tag_go t ts key k false true e f other ih = rw (e, f) refl
 tag_go t ts key k false false e f other ih = rw (e, f) ih
@@ -250,28 +221,28 @@ less_go n t ts key false e low below ih = rw (e, low) ih
 
 pub below-without : (n : ℕ) (ts : Tags) (key : ℕ) → are_below n ts ≡ true → are_below n (without_tag ts key) ≡ true
 below-without n [] key below = refl
-below-without n (t ∷ ts) key below = let p = both (nat_lt t.1 n) (are_below n ts) below in less_go n t ts key (t.0 == key) refl p.0 p.1 (below-without n ts key p.1)
+below-without n (t ∷ ts) key below = let p = and_parts (nat_lt t.1 n) (are_below n ts) below in less_go n t ts key (t.0 == key) refl p.0 p.1 (below-without n ts key p.1)
 
 -- ---- a new key
 
 at_go : (t : ℕ × ℕ) (ts : Tags) (key wire : ℕ) (b c : Bool) → (t.0 == key) ≡ b → nat_lt key t.0 ≡ c → tag_at (t ∷ ts) key ≡ None →
     (tag_at ts key ≡ None → tag_at (with_tag ts key wire) key ≡ Some wire) → tag_at (with_tag (t ∷ ts) key wire) key ≡ Some wire
 at_go t ts key wire true c e f free ih = let no_way : Some t.1 ≡ None = rw e at free in cc
-at_go t ts key wire false true e f free ih = rw (f, same_number key key refl) refl
+at_go t ts key wire false true e f free ih = rw (f, eq-eqb key key refl) refl
 at_go t ts key wire false false e f free ih = rw (f, e) (ih (rw e at free))
 
 pub tag_at-with : (ts : Tags) (key wire : ℕ) → tag_at ts key ≡ None → tag_at (with_tag ts key wire) key ≡ Some wire
-tag_at-with [] key wire free = rw (same_number key key refl) refl
+tag_at-with [] key wire free = rw (eq-eqb key key refl) refl
 tag_at-with (t ∷ ts) key wire free = at_go t ts key wire (t.0 == key) (nat_lt key t.0) refl refl free (tag_at-with ts key wire)
 
 others_go : (t : ℕ × ℕ) (ts : Tags) (key wire k : ℕ) (b c : Bool) → (t.0 == k) ≡ b → nat_lt key t.0 ≡ c → k ≢ key → tag_at (with_tag ts key wire) k ≡ tag_at ts k → tag_at (with_tag (t ∷ ts) key wire) k ≡ tag_at (t ∷ ts) k
-others_go t ts key wire k b true e f other ih = rw (f, not_same key k (λ g. other (sym g))) refl
+others_go t ts key wire k b true e f other ih = rw (f, ne_eqb key k (λ g. other (sym g))) refl
 others_go t ts key wire k true false e f other ih = rw (f, e) refl
 others_go t ts key wire k false false e f other ih = rw (f, e) ih
 
 -- the other keys stay
 pub other_tag-with : (ts : Tags) (key wire k : ℕ) → k ≢ key → tag_at (with_tag ts key wire) k ≡ tag_at ts k
-other_tag-with [] key wire k other = rw (not_same key k (λ g. other (sym g))) refl
+other_tag-with [] key wire k other = rw (ne_eqb key k (λ g. other (sym g))) refl
 other_tag-with (t ∷ ts) key wire k other = others_go t ts key wire k (t.0 == k) (nat_lt key t.0) refl refl other (other_tag-with ts key wire k other)
 
 swap : (a b c : Bool) → (a || (b || c)) ≡ (b || (a || c))
@@ -290,39 +261,39 @@ has_wire-with (t ∷ ts) key wire w = wire_go t ts key wire w (nat_lt key t.0) r
 
 -- the other wires stay
 pub other_wire-with : (ts : Tags) (key wire w : ℕ) → w ≢ wire → has_wire w (with_tag ts key wire) ≡ has_wire w ts
-other_wire-with ts key wire w other = has_wire-with ts key wire w ∙ ap (λ b. b || has_wire w ts) (not_same wire w (λ g. other (sym g)))
+other_wire-with ts key wire w other = has_wire-with ts key wire w ∙ ap (λ b. b || has_wire w ts) (ne_eqb wire w (λ g. other (sym g)))
 
 single_with : (t : ℕ × ℕ) (ts : Tags) (key wire : ℕ) (b : Bool) → nat_lt key t.0 ≡ b → has_wire wire (t ∷ ts) ≡ false → Single (t ∷ ts) → Single (with_tag ts key wire) → Single (with_tag (t ∷ ts) key wire)
 single_with t ts key wire true e none single ih = rw e (none, single)
 single_with t ts key wire false e none single ih =
-    let p = neither (t.1 == wire) (has_wire wire ts) none in
-    rw e (other_wire-with ts key wire t.1 (is_other t.1 wire p.0) ∙ single.0, ih)
+    let p = or_parts (t.1 == wire) (has_wire wire ts) none in
+    rw e (other_wire-with ts key wire t.1 (eqb-false t.1 wire p.0) ∙ single.0, ih)
 
 pub single-with : (ts : Tags) (key wire : ℕ) → has_wire wire ts ≡ false → Single ts → Single (with_tag ts key wire)
 single-with [] key wire none single = (refl, tt)
 single-with (t ∷ ts) key wire none single =
-    let p = neither (t.1 == wire) (has_wire wire ts) none in
+    let p = or_parts (t.1 == wire) (has_wire wire ts) none in
     single_with t ts key wire (nat_lt key t.0) refl none single (single-with ts key wire p.1 single.1)
 
 below_with : (n : ℕ) (t : ℕ × ℕ) (ts : Tags) (key wire : ℕ) (b : Bool) → nat_lt key t.0 ≡ b → wire < n → nat_lt t.1 n ≡ true → are_below n ts ≡ true → are_below n (with_tag ts key wire) ≡ true → are_below n (with_tag (t ∷ ts) key wire) ≡ true
-below_with n t ts key wire true e low first below ih = rw (e, lt_true wire n low, first) below
+below_with n t ts key wire true e low first below ih = rw (e, lt-ltb wire n low, first) below
 below_with n t ts key wire false e low first below ih = rw (e, first) ih
 
 pub below-with : (n : ℕ) (ts : Tags) (key wire : ℕ) → wire < n → are_below n ts ≡ true → are_below n (with_tag ts key wire) ≡ true
-below-with n [] key wire low below = rw (lt_true wire n low) refl
+below-with n [] key wire low below = rw (lt-ltb wire n low) refl
 below-with n (t ∷ ts) key wire low below =
-    let p = both (nat_lt t.1 n) (are_below n ts) below in
+    let p = and_parts (nat_lt t.1 n) (are_below n ts) below in
     below_with n t ts key wire (nat_lt key t.0) refl low p.0 p.1 (below-with n ts key wire low p.1)
 
 back_go : (t : ℕ × ℕ) (ts : Tags) (key wire : ℕ) (b c : Bool) → (t.0 == key) ≡ b → nat_lt key t.0 ≡ c → tag_at (t ∷ ts) key ≡ None →
     (tag_at ts key ≡ None → without_tag (with_tag ts key wire) key ≡ ts) → without_tag (with_tag (t ∷ ts) key wire) key ≡ t ∷ ts
 back_go t ts key wire true c e f free ih = let no_way : Some t.1 ≡ None = rw e at free in cc
-back_go t ts key wire false true e f free ih = rw (f, same_number key key refl) refl
+back_go t ts key wire false true e f free ih = rw (f, eq-eqb key key refl) refl
 back_go t ts key wire false false e f free ih = rw (f, e, ih (rw e at free)) refl
 
 -- a new key that is taken out again
 pub without-with : (ts : Tags) (key wire : ℕ) → tag_at ts key ≡ None → without_tag (with_tag ts key wire) key ≡ ts
-without-with [] key wire free = rw (same_number key key refl) refl
+without-with [] key wire free = rw (eq-eqb key key refl) refl
 without-with (t ∷ ts) key wire free = back_go t ts key wire (t.0 == key) (nat_lt key t.0) refl refl free (without-with ts key wire)
 
 -- ---- more room, and no room
@@ -330,13 +301,13 @@ without-with (t ∷ ts) key wire free = back_go t ts key wire (t.0 == key) (nat_
 pub below-weaker : (n m : ℕ) (ts : Tags) → n ≤ m → are_below n ts ≡ true → are_below m ts ≡ true
 below-weaker n m [] le below = refl
 below-weaker n m (t ∷ ts) le below =
-    let p = both (nat_lt t.1 n) (are_below n ts) below in
-    let low : t.1 < n = is_less t.1 n p.0 in
-    rw (lt_true t.1 m (omega arith)) (below-weaker n m ts le p.1)
+    let p = and_parts (nat_lt t.1 n) (are_below n ts) below in
+    let low : t.1 < n = ltb-true t.1 n p.0 in
+    rw (lt-ltb t.1 m (omega arith)) (below-weaker n m ts le p.1)
 
 pub below-none : (ts : Tags) → are_below 0 ts ≡ true → ts ≡ []
 below-none [] below = refl
-below-none (t ∷ ts) below = let p = both (nat_lt t.1 0) (are_below 0 ts) below in let low : t.1 < 0 = is_less t.1 0 p.0 in absurd (omega arith)
+below-none (t ∷ ts) below = let p = and_parts (nat_lt t.1 0) (are_below 0 ts) below in let low : t.1 < 0 = ltb-true t.1 0 p.0 in absurd (omega arith)
 
 pub tags-none : (sources : List (ℕ × Source)) → tags sources ≡ [] → sources ≡ []
 tags-none [] none = refl

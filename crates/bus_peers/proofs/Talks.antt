@@ -2,12 +2,10 @@
 use Rattle.std.proofs.Common.{◌≡◌, ◌≢◌, ℕ, ◌+◌, Bool, true, false, List, [], ◌∷◌, ◌++◌, Option, Some, length, refl, sym, ◌∙◌, ap, subst, inl, inr, arith, nat_le, ◌&&◌}
 use Rattle.std.specs.List.{flat_map}
 use Rattle.std.specs.Option.{option_and_then}
-use Rattle.std.specs.Str.{bytes_eq}
 use Rattle.std.proofs.lemmas.List.{append_assoc, append-nil, length-append}
 use Rattle.std.proofs.lemmas.List.Elements.{filter-append}
 use Rattle.std.proofs.lemmas.List.Sums.{sum_by-append}
 use Rattle.std.proofs.lemmas.Bool.Decides.{nat_tests}
-use Rattle.std.proofs.lemmas.Grind.{common_steps}
 use Rattle.react_core.specs.Told.{told}
 use Rattle.react_core.specs.declared.outside.Event.{Event}
 use Rattle.react_core.specs.declared.outside.Event.TheVariants as event
@@ -33,12 +31,9 @@ use Rattle.bus_peers.specs.Registry.{Held, held_after, registry, noted}
 use Rattle.bus_peers.specs.Asking.{Asking, asking_next, asks, begins, after_stop, stop_of, last_stop}
 use Rattle.bus_peers.specs.Settled.{IsCall, AreCalls, waits_in, armings_in}
 use Rattle.bus_peers.specs.Visited.{stands_at, EndsAs, GoesOn, ending_of}
+use Rattle.bus_peers.proofs.PlayLemmas.{bytes_eq-refl}
 
 -- ---- one list of events after another
-
-pub bytes_eq-refl : (xs : List ℕ) → bytes_eq xs xs ≡ true
-bytes_eq-refl [] = refl
-bytes_eq-refl (x ∷ xs) = grind (arith, common_steps, bytes_eq-refl xs)
 
 pub part-append : (w : ℕ) (a b : List Event) → part w (a ++ b) ≡ part w a ++ part w b
 part-append w a b = filter-append (is_of w) a b

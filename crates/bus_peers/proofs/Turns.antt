@@ -1,11 +1,10 @@
 -- A turn of a visit: a poll of the conversation, and the note of its stop; and one turn after another.
-use Rattle.std.proofs.Common.{◌≡◌, ◌⊎◌, inl, inr, ℕ, Bool, true, false, List, [], ◌∷◌, ◌++◌, map, length, Option, Some, None, Result, Ok, Err, OnErr, ◌<◌, ◌^◌, ◌||◌, if◌then◌else◌, arith, refl, sym, ◌∙◌, ap, subst}
+use Rattle.std.proofs.Common.{◌≡◌, ◌⊎◌, inl, inr, ℕ, Bool, true, false, List, [], ◌++◌, map, length, Option, Some, None, Result, Ok, Err, OnErr, ◌<◌, ◌^◌, if◌then◌else◌, arith, refl, sym, ◌∙◌, ap, subst}
 use Rattle.std.specs.Option.{option_and_then}
 use Rattle.std.proofs.lemmas.List.{append_assoc, append-nil}
 use Rattle.react_core.specs.Told.{told, told-told}
 use Rattle.react_core.specs.Core.{Core}
 use Rattle.react_core.specs.declared.outside.Event.{Event}
-use Rattle.react_core.specs.declared.outside.Event.TheVariants as event
 use Rattle.react_core.specs.declared.reactor.Dir.{Dir}
 use Rattle.react_core.specs.declared.reactor.Dir.TheVariants.{Read, Write}
 use Rattle.bus_opening.specs.Openings.{Opening, StandsIn, written_of, rest_of}
@@ -28,6 +27,7 @@ use Rattle.bus_peers.specs.Visited.{is_awake, ending_of, Keeps, Holds, arms_told
 use Rattle.bus_peers.proofs.Talks.{registry-append, asks-append, last_stop-append, goes-append, waits_in-append, AreCalls-append, stop_step, EndedBy, StoppedBy, poll-waits, poll-ended, poll-stopped}
 use Rattle.bus_peers.proofs.Readies.{stopped-wire}
 use Rattle.bus_peers.proofs.Keeps.{noted-keeps}
+use Rattle.bus_peers.proofs.Armings.{arming-quiet, arming-apart, arming-waits}
 
 -- ---- what was told so far, at a refusal
 
@@ -120,30 +120,18 @@ turned-over wire key r0 r1 core c c' v e holds rests polls leaves is =
 
 -- ---- a turn that stops
 
-arming_quiet : (h : Held) (held : List Held) (b : Bool) → registry held (if b then event.Modify h.wire h.key (waits h.read) (waits h.write) true ∷ [] else []) ≡ held
-arming_quiet h held true = refl
-arming_quiet h held false = refl
-
-arming_apart : (h : Held) (w : ℕ) (b : Bool) → part w (if b then event.Modify h.wire h.key (waits h.read) (waits h.write) true ∷ [] else []) ≡ []
-arming_apart h w true = refl
-arming_apart h w false = refl
-
-arming_waits : (h : Held) (b : Bool) → waits_in (if b then event.Modify h.wire h.key (waits h.read) (waits h.write) true ∷ [] else []) ≡ 0
-arming_waits h true = refl
-arming_waits h false = refl
-
 arms_quiet : (dir : Dir) (h : Held) (b : Side) → (held : List Held) → registry held (arms_told (arms_at dir h b)) ≡ held
-arms_quiet dir h Idle = λ held. arming_quiet (stopped_held dir h) held (waits (stopped_held dir h).read || waits (stopped_held dir h).write)
+arms_quiet dir h Idle = λ held. arming-quiet (stopped_held dir h) held
 arms_quiet dir h Waits = λ held. refl
 arms_quiet dir h Reported = λ held. refl
 
 arms_apart : (dir : Dir) (h : Held) (w : ℕ) (b : Side) → part w (arms_told (arms_at dir h b)) ≡ []
-arms_apart dir h w Idle = arming_apart (stopped_held dir h) w (waits (stopped_held dir h).read || waits (stopped_held dir h).write)
+arms_apart dir h w Idle = arming-apart (stopped_held dir h) w
 arms_apart dir h w Waits = refl
 arms_apart dir h w Reported = refl
 
 arms_waits : (dir : Dir) (h : Held) (b : Side) → waits_in (arms_told (arms_at dir h b)) ≡ 0
-arms_waits dir h Idle = arming_waits (stopped_held dir h) (waits (stopped_held dir h).read || waits (stopped_held dir h).write)
+arms_waits dir h Idle = arming-waits (stopped_held dir h)
 arms_waits dir h Waits = refl
 arms_waits dir h Reported = refl
 

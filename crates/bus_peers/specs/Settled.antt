@@ -6,6 +6,7 @@ use Rattle.react_core.specs.declared.outside.Event.{Event}
 use Rattle.react_core.specs.declared.outside.Event.TheVariants as event
 use Rattle.react_core.specs.declared.outside.Report.{Report}
 use Rattle.react_core.specs.declared.reactor.Dir.{Dir}
+use Rattle.react_core.specs.declared.reactor.Dir.TheVariants.{Read, Write}
 use Rattle.react_core.specs.Round.{Round, IsRound, round_told, reports_of}
 use Rattle.bus_script.specs.declared.ended.Ending.TheVariants as ending
 use Rattle.bus_peers.specs.declared.session.Session.{Session}
@@ -16,8 +17,22 @@ use Rattle.bus_peers.specs.Asking.{asks, begins, last_stop}
 
 -- ---- sleeping
 
--- The session sleeps: its last wire answer is NotReady, its source is registered, and the direction that the answer paused is
--- armed and was not reported since.
+abbrev pub names : Dir → Bool → Bool → Bool
+names Read read write = read
+names Write read write = write
+
+-- whether the last arming under this key names the direction; a new source is not armed
+abbrev pub armed_after : ℕ → Dir → Bool → Event → Bool
+armed_after key dir was (event.Add wire k ok) = if k == key then false else was
+armed_after key dir was (event.Modify wire k read write ok) = if k == key then names dir read write else was
+armed_after key dir was e = was
+
+abbrev pub is_armed : ℕ → Dir → Bool → List Event → Bool
+is_armed key dir was [] = was
+is_armed key dir was (e ∷ events) = is_armed key dir (armed_after key dir was e) events
+
+-- The session sleeps: its last wire answer is NotReady, its source is registered, the last arming of that source names the
+-- direction that the answer paused, and no Wait has reported the direction since it began to wait.
 pub record Sleeps (s : Session) (wire : ℕ) (q : List Event) : Type 0 where
   pub came : Outcome
   pub alone_so : alone s (part wire q) ≡ Some came
@@ -27,7 +42,8 @@ pub record Sleeps (s : Session) (wire : ℕ) (q : List Event) : Type 0 where
   pub held : Held
   pub registered : held_at (registry [] q) held.key ≡ Some held
   pub own : held.wire ≡ wire
-  pub armed : waits (side_held dir held) ≡ true
+  pub armed : is_armed held.key dir false q ≡ true
+  pub unreported : waits (side_held dir held) ≡ true
 
 -- every session has ended or sleeps
 abbrev pub AllRest : List Session → List Event → Type 0

@@ -21,7 +21,7 @@ use Rattle.bus_peers.specs.Alone.{dials, goes_through, alone, outcome}
 use Rattle.bus_peers.specs.Headline.{after_begun}
 use Rattle.bus_peers.specs.Registry.{Held, waits, side_held, held_at, registry}
 use Rattle.bus_peers.specs.Asking.{last_stop}
-use Rattle.bus_peers.specs.Settled.{Visit, Run, AllRest, waits_in, armings_in, is_in}
+use Rattle.bus_peers.specs.Settled.{is_armed, Visit, Run, AllRest, waits_in, armings_in, is_in}
 use Rattle.bus_peers.specs.Shown.{Rests, shown, Tags, tag_at, has_wire, Single, are_below}
 use Rattle.bus_peers.specs.Visited.{is_awake, stands_at}
 
@@ -61,13 +61,15 @@ pub record Talking (s : Session) (wire : ℕ) (q : List Event) (c : Opening) : T
   pub stands : StandsIn talk got c
   pub through : goes_through s.party (option_map dials (first_question s.party)) (part wire q) ≡ Some (stands_at talk got c true)
 
--- the direction that its last wire answer paused waits, unless the session is still to be visited in this round
+-- Each direction that waits is armed. The one that its last wire answer paused waits, unless the session is still to be visited
+-- in this round.
 pub record Paused (wire : ℕ) (q : List Event) (key : ℕ) (pending : List ℕ) : Type 0 where
   pub held : Held
   pub registered : held_at (registry [] q) key ≡ Some held
   pub own : held.wire ≡ wire
   pub dir : Dir
   pub last : last_stop None (part wire q) ≡ Some dir
+  pub armed : (d : Dir) → waits (side_held d held) ≡ true → is_armed key d false q ≡ true
   pub waits_or_due : (waits (side_held dir held) ≡ true) ⊎ (is_in wire pending ≡ true)
 
 abbrev pub Stands : Session → ℕ → List ℕ → List Event → Slot → Type 0
@@ -142,6 +144,7 @@ pub record Goes (s : Session) (wire : ℕ) (q : List Event) (before after : Opti
   pub shows : registry [] (q ++ v) ≡ map shown new.sources
   pub others : (w : ℕ) → w ≢ wire → part w v ≡ []
   pub keeps : (k : ℕ) (x : Held) → held_at (registry [] q) k ≡ Some x → x.wire ≢ wire → held_at (registry [] (q ++ v)) k ≡ Some x
+  pub arms : (k : ℕ) (x : Held) (d : Dir) → held_at (registry [] q) k ≡ Some x → x.wire ≢ wire → is_armed k d false (q ++ v) ≡ is_armed k d false q
   pub rests : Rests new
   pub ticker : new.ticker ≡ old.ticker
   pub made : new.made ≡ old.made

@@ -1,4 +1,4 @@
-use Rattle.std.proofs.Common.{rules, ◌≡◌, ◌≤◌, ◌+◌, ◌-◌, ℕ, List, [], ◌∷◌, length, vec_capacity, Some, slice_get, refl, sym, ◌∙◌, ap, subst, arith}
+use Rattle.std.proofs.Common.{rules, ◌≡◌, ◌≤◌, ◌+◌, ◌-◌, ℕ, List, [], ◌∷◌, ◌++◌, length, vec_capacity, Some, slice_get, refl, sym, ◌∙◌, ap, subst, arith}
 use Rattle.std.specs.List.{list_all}
 use Rattle.std.proofs.lemmas.List.{length-append}
 use Rattle.std.proofs.lemmas.Option.{slice_get-get_or}
@@ -57,12 +57,12 @@ loop-session-preserved g c =
       wire = ap (λ n. n + 1) c.loop-session.invariant.wire;
       len = ap length c.push_reserved.ensures.items ∙ (length-append c.loop-session.slots.items (c.in_ok-first_visit.field-0 ∷ []) ∙ ap (λ n. n + 1) c.loop-session.invariant.len);
       room = omega (arith, c.loop-session.invariant.room, c.push_reserved.ensures.capacity);
-      went = λ rounds. subst (W rounds) (sym c.push_reserved.ensures.items)
+      went = λ rounds. subst (W rounds) {x = c.loop-session.slots.items ++ c.in_ok-first_visit.field-0 ∷ []} (sym {A = List Slot} c.push_reserved.ensures.items)
           (going-first c.deref-session-items.result.now rounds c.loop-session.session-index c.args.reactor.now.core (g.O.Tells.events c.args.outside.now) (g.O.Tells.events c.loop-session.outside) (g.O.Tells.events c.first_visit.new.outside) c.loop-session.reactor.core c.first_visit.new.reactor.core c.loop-session.slots.items
           c.session-item.result c.in_ok-first_visit.field-0 here at (subst V c.loop-session.invariant.wire c.in_ok-first_visit.ensures.visited) (c.loop-session.invariant.went rounds));
       stands = ap (list_all is_open_slot) c.push_reserved.ensures.items ∙ test-more is_open_slot c.loop-session.slots.items c.in_ok-first_visit.field-0 c.loop-session.invariant.stands
           (first-open c.session-item.result c.loop-session.wire (g.O.Tells.events c.loop-session.outside) (g.O.Tells.events c.first_visit.new.outside) c.loop-session.reactor.core c.first_visit.new.reactor.core c.in_ok-first_visit.field-0 c.in_ok-first_visit.ensures.visited);
-      owned = subst O (sym c.push_reserved.ensures.items) (owned-first c.loop-session.wire c.loop-session.slots.items (tags c.loop-session.reactor.core.sources) (tags c.first_visit.new.reactor.core.sources) c.in_ok-first_visit.field-0
+      owned = subst O {x = c.loop-session.slots.items ++ c.in_ok-first_visit.field-0 ∷ []} (sym {A = List Slot} c.push_reserved.ensures.items) (owned-first c.loop-session.wire c.loop-session.slots.items (tags c.loop-session.reactor.core.sources) (tags c.first_visit.new.reactor.core.sources) c.in_ok-first_visit.field-0
           (c.loop-session.invariant.wire ∙ here) c.in_ok-first_visit.ensures.tags c.loop-session.invariant.owned);
       poller = c.in_ok-first_visit.ensures.cause ∙ c.loop-session.invariant.poller;
       origin = c.in_ok-first_visit.ensures.origin ∙ c.loop-session.invariant.origin;

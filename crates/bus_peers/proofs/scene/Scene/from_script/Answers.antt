@@ -1,4 +1,4 @@
-use Rattle.std.proofs.Common.{◌≡◌, length, ap, sym, ◌∙◌, subst, arith}
+use Rattle.std.proofs.Common.{◌≡◌, length, arith}
 use Rattle.std.proofs.lemmas.Grind.{common_steps}
 use Rattle.bus_peers.proofs.ReadingLemmas.{all_built, sessions_few}
 use Rattle.bus_peers.proofs.scene.Scene.from_script.Goals as goal
