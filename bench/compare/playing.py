@@ -1,8 +1,7 @@
 """Plays a script: the sessions' visits, the rounds and the closing, and the printed text."""
-import re
+import conversing
+import reading
 
-MOST_LINE = 16384
-MOST_COMMANDS = 64
 MOST_READ = 1024
 MOST_REPORTS = 64
 
@@ -15,145 +14,132 @@ def printed(data):
     return data.hex() if data else "."
 
 
-def guid_said(line):
-    """The GUID that a line without its CR LF says with OK, or None."""
-    try:
-        words = [word for word in re.split("[\t\n\f\r ]+", line.decode("utf-8")) if word]
-    except UnicodeDecodeError:
-        return None
-    if len(words) < 2 or words[0] != "OK" or not re.fullmatch("[0-9a-fA-F]{32}", words[1]):
-        return None
-    return words[1].lower()
+def directions(flags):
+    return "".join(flag for flag in "rw" if flag in flags)
 
 
-def asked(user, got, taken):
-    """What a client asks next: ("send", bytes), ("recv", None) or ("ends", ending); and what of the bytes is left over."""
-    pieces = [b"\0AUTH EXTERNAL " + str(user).encode().hex().encode() + b"\r\n"]
-    ending = None
-    lines = 0
-    while True:
-        at = 0
-        for piece in pieces:
-            if taken < at + len(piece):
-                return ("send", piece[taken - at:]), got
-            at += len(piece)
-        if ending is not None:
-            return ("ends", ending), got
-        if lines == MOST_COMMANDS:
-            return ("ends", "too-many-commands"), got
-        if len(got) > MOST_LINE and b"\n" not in got[:MOST_LINE + 1]:
-            return ("ends", "line-too-long"), got
-        if b"\n" not in got:
-            return ("recv", None), got
-        line, _, got = got.partition(b"\n")
-        lines += 1
-        guid = guid_said(line[:-1]) if line.endswith(b"\r") else None
-        ending = "handshake" if guid is None else f"open:{guid}:n"
-        if guid is not None:
-            pieces.append(b"BEGIN\r\n")
-
-
-class Client:
-    def __init__(self, user, path):
-        self.user = user
-        self.path = path
-        self.got = b""
-        self.written = b""
-        self.left = b""
+class Session:
+    def __init__(self, session):
+        self.session = session
+        self.conversation = None
         self.ending = "waiting"
         self.key = None
-        # how reading stands: idle, waits, or reported since it began to wait
-        self.reading = "idle"
+        # how each direction stands: idle, waits, or reported since it began to wait
+        self.sides = {"r": "idle", "w": "idle"}
+
+    def waits(self):
+        return directions([flag for flag, side in self.sides.items() if side == "waits"])
+
+    def line(self, wire):
+        written, left = (self.conversation.written, self.conversation.left) if self.conversation else (b"", b"")
+        return f"session {wire} {self.ending} {printed(written)} {printed(left)} -"
 
 
 class Player:
     def __init__(self, script):
         self.script = script
-        self.clients = [Client(user, path) for user, path in script.clients]
+        self.sessions = [Session(session) for session in script.sessions]
         self.events = []
         self.free = []
         self.keys = 0
         self.holders = {}
 
-    def poll(self, call, wire, key, directions=""):
+    def poll(self, call, wire, key, named=""):
         answers = self.script.poller[call]
         ok = answers.pop(0) if answers else True
-        self.events.append(f"{call} {wire} {key}{directions} {'ok' if ok else 'fault'}")
+        self.events.append(f"{call} {wire} {key}{named} {'ok' if ok else 'fault'}")
         if not ok:
             raise PollerFailed
 
     def delete(self, wire):
-        client = self.clients[wire]
-        key, client.key = client.key, None
+        session = self.sessions[wire]
+        key, session.key = session.key, None
         del self.holders[key]
         self.free.append(key)
         self.poll("delete", wire, key)
 
+    def end(self, wire, ending):
+        self.sessions[wire].ending = ending
+        self.delete(wire)
+
     def first_visit(self, wire):
-        client = self.clients[wire]
+        session = self.sessions[wire]
         answers = self.script.dials.get(wire, [])
-        opened = answers.pop(0) if answers else False
-        self.events.append(f"dial {wire} unix {printed(client.path)} = {'open n' if opened else 'fault'}")
-        if not opened:
-            client.ending = "connection"
+        passes = answers.pop(0) if answers else None
+        asked = f"unix {printed(session.session.path)}" if isinstance(session.session, reading.Client) else "accept"
+        answer = "fault" if passes is None else f"open {'y' if passes else 'n'}"
+        self.events.append(f"dial {wire} {asked} = {answer}")
+        if passes is None:
+            session.ending = "connection"
             return
+        session.conversation = conversing.Conversation(session.session, passes)
         if self.free:
-            client.key = self.free.pop()
+            session.key = self.free.pop()
         else:
-            client.key = self.keys
+            session.key = self.keys
             self.keys += 1
-        self.holders[client.key] = wire
-        self.poll("add", wire, client.key)
+        self.holders[session.key] = wire
+        self.poll("add", wire, session.key)
         self.visit(wire)
 
     def visit(self, wire):
-        client = self.clients[wire]
-        while True:
-            (what, value), client.left = asked(client.user, client.got, len(client.written))
+        goes_on = True
+        while goes_on:
+            what, value = self.sessions[wire].conversation.asks()
             if what == "send":
-                self.events.append(f"send {wire} {printed(value)} took {len(value)}")
-                client.written += value
-            elif what == "ends":
-                return self.end(wire, value)
-            elif not self.read(wire):
-                return None
+                goes_on = self.send(wire, value)
+            elif what == "recv":
+                goes_on = self.read(wire)
+            else:
+                self.end(wire, value)
+                goes_on = False
 
-    def end(self, wire, ending):
-        self.clients[wire].ending = ending
-        self.delete(wire)
+    def send(self, wire, offered):
+        """One send; whether the visit goes on."""
+        answers = self.script.sends.get(wire, [])
+        answer = answers.pop(0) if answers else len(offered)
+        if answer == 0:
+            answer = "fault"
+        if isinstance(answer, int):
+            taken = min(answer, len(offered))
+            self.sessions[wire].conversation.written += offered[:taken]
+            self.events.append(f"send {wire} {printed(offered)} took {taken}")
+            return True
+        self.events.append(f"send {wire} {printed(offered)} {answer}")
+        return self.stopped(wire, "w", answer)
 
     def read(self, wire):
         """One read; whether the visit goes on."""
-        client = self.clients[wire]
         answers = self.script.reads.get(wire, [])
         answer = answers.pop(0) if answers else "again"
         if isinstance(answer, bytes):
             if len(answer) > MOST_READ:
                 answers.insert(0, answer[MOST_READ:])
-            client.got += answer[:MOST_READ]
+            self.sessions[wire].conversation.left += answer[:MOST_READ]
             self.events.append(f"recv {wire} {MOST_READ} bytes {printed(answer[:MOST_READ])}")
             return True
         self.events.append(f"recv {wire} {MOST_READ} {answer}")
-        if answer == "end":
-            self.end(wire, "handshake")
-            return False
-        return self.stopped(wire)
+        return self.stopped(wire, "r", answer)
 
-    def stopped(self, wire):
-        client = self.clients[wire]
-        if client.reading == "reported":
-            client.reading = "idle"
+    def stopped(self, wire, flag, answer):
+        """A call that moved nothing; whether the visit goes on."""
+        session = self.sessions[wire]
+        if answer != "again":
+            self.end(wire, "handshake" if answer == "end" else "io")
+            return False
+        if session.sides[flag] == "reported":
+            session.sides[flag] = "idle"
             return True
-        if client.reading == "idle":
-            client.reading = "waits"
-            self.poll("modify", wire, client.key, " r")
+        if session.sides[flag] == "idle":
+            session.sides[flag] = "waits"
+            self.poll("modify", wire, session.key, f" {session.waits()}")
         return False
 
     def reported(self, answer):
         if answer == "interrupted":
             return []
-        keys = [(number if key else self.clients[number].key, read, write) for key, number, read, write in answer]
-        return [report for report in keys if report[0] is not None][:MOST_REPORTS]
+        named = [(number if key else self.sessions[number].key, "r" * read + "w" * write) for key, number, read, write in answer]
+        return [report for report in named if report[0] is not None][:MOST_REPORTS]
 
     def round(self):
         self.events.append("now 0")
@@ -164,8 +150,7 @@ class Player:
         if answer == "interrupted":
             self.events.append("wait - interrupted")
         else:
-            words = [f" {key}{'r' if read else ''}{'w' if write else ''}" for key, read, write in reports]
-            self.events.append("wait - reports" + "".join(words))
+            self.events.append("wait - reports" + "".join(f" {key}{flags}" for key, flags in reports))
             if not reports:
                 self.events.append("now 0")
         for wire in sorted(self.rearmed(reports)):
@@ -174,31 +159,31 @@ class Player:
     def rearmed(self, reports):
         """Arms what still waits, one report after another; the sessions that they make due."""
         due = set()
-        for key, read, _ in reports:
+        for key, flags in reports:
             if key not in self.holders:
                 continue
             wire = self.holders[key]
-            client = self.clients[wire]
-            if read and client.reading == "waits":
-                client.reading = "reported"
-                due.add(wire)
-            if client.reading == "waits":
-                self.poll("modify", wire, key, " r")
+            session = self.sessions[wire]
+            for flag in flags:
+                if session.sides[flag] == "waits":
+                    session.sides[flag] = "reported"
+                    due.add(wire)
+            if session.waits():
+                self.poll("modify", wire, key, f" {session.waits()}")
         return due
 
     def play(self):
-        for wire in range(len(self.clients)):
+        for wire in range(len(self.sessions)):
             self.first_visit(wire)
         rounds = self.script.rounds
         while rounds > 0 and self.holders:
             rounds -= 1
             self.round()
-        for wire, client in enumerate(self.clients):
-            if client.key is not None:
+        for wire, session in enumerate(self.sessions):
+            if session.key is not None:
                 self.delete(wire)
-        lines = [f"session {wire} {client.ending} {printed(client.written)} {printed(client.left)} -"
-                 for wire, client in enumerate(self.clients)]
-        opened = all(client.ending.startswith("open:") for client in self.clients)
+        lines = [session.line(wire) for wire, session in enumerate(self.sessions)]
+        opened = all(session.ending.startswith("open:") for session in self.sessions)
         return 0 if opened else 1, "".join(line + "\n" for line in lines + self.events)
 
 

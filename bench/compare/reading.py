@@ -17,7 +17,8 @@ FORMS = [
     ("start", rf"start (?P<u64_tick>{NUMBER}) (?P<u64_timer>{NUMBER})"),
     ("client", rf"client (?P<mech>-|EXTERNAL|ANONYMOUS) (?P<u32>{NUMBER}) (?P<hello>-|{BYTES}) (?P<flatpak>[yn])"
                rf" (?P<deadline>-|(?P<u64>{NUMBER})) (?P<address>.*)"),
-    ("server", rf"server [0-9a-fA-F]{{32}} (?:EXTERNAL|ANONYMOUS) (?:-|(?P<u32>{NUMBER})) (?:-|(?P<u64>{NUMBER}))"),
+    ("server", rf"server (?P<guid>[0-9a-fA-F]{{32}}) (?P<mech>EXTERNAL|ANONYMOUS) (?:-|(?P<u32>{NUMBER}))"
+               rf" (?P<deadline>-|(?P<u64>{NUMBER}))"),
     ("dial open", rf"dial (?P<u32>{NUMBER}) open (?P<flag>[yn])"),
     ("dial peers", rf"dial (?P<u32>{NUMBER}) peers(?P<peers>(?: {PEER})*)"),
     ("dial nonce", rf"dial (?P<u32>{NUMBER}) nonce (?:{BYTES})"),
@@ -28,7 +29,8 @@ FORMS = [
     ("recv again", rf"recv (?P<u32>{NUMBER}) again"),
     ("recv fault", rf"recv (?P<u32>{NUMBER}) fault"),
     ("send took", rf"send (?P<u32>{NUMBER}) took (?P<u64>{NUMBER})"),
-    ("send other", rf"send (?P<u32>{NUMBER}) (?:again|fault)"),
+    ("send again", rf"send (?P<u32>{NUMBER}) again"),
+    ("send fault", rf"send (?P<u32>{NUMBER}) fault"),
     ("now", rf"now (?P<u64>{NUMBER})"),
     ("poller", r"(?P<call>add|modify|delete) (?P<answer>ok|fault)"),
     ("notify", r"notify (?:ok|fault)"),
@@ -37,8 +39,7 @@ FORMS = [
     ("wait fault", r"wait fault"),
 ]
 COMPILED = [(kind, re.compile(form, re.DOTALL)) for kind, form in FORMS]
-BUILT = {"rounds", "client", "dial open", "dial fault", "recv bytes", "recv end", "recv again", "poller",
-         "wait reports", "wait interrupted", "wait fault"}
+NOT_BUILT = {"start", "dial peers", "dial nonce", "dial output", "now", "notify"}
 
 
 class Refused(Exception):
@@ -49,11 +50,29 @@ class Refused(Exception):
 
 
 @dataclasses.dataclass
+class Client:
+    mechanism: str
+    user: int
+    hello: bytes
+    flatpak: bool
+    path: bytes
+
+
+@dataclasses.dataclass
+class Server:
+    guid: str
+    mechanism: str
+    permitted: int | None
+
+
+@dataclasses.dataclass
 class Script:
     rounds: int = 0
-    clients: list = dataclasses.field(default_factory=list)
+    sessions: list = dataclasses.field(default_factory=list)
+    # the answers to each session's dialling (whether the wire passes descriptors, or None), reads and sends
     dials: dict = dataclasses.field(default_factory=dict)
     reads: dict = dataclasses.field(default_factory=dict)
+    sends: dict = dataclasses.field(default_factory=dict)
     poller: dict = dataclasses.field(default_factory=lambda: {"add": [], "modify": [], "delete": []})
     waits: list = dataclasses.field(default_factory=list)
 
@@ -88,10 +107,10 @@ def is_built(kind, groups):
     if kind == "client":
         path = groups["address"].removeprefix(PLAIN).encode()
         plain = groups["address"].startswith(PLAIN) and path and all(byte in PLAIN_BYTES for byte in path)
-        return bool(plain) and (groups["mech"], groups["hello"], groups["flatpak"], groups["deadline"]) == ("EXTERNAL", "-", "n", "-")
-    if kind == "dial open":
-        return groups["flag"] == "n"
-    return kind in BUILT
+        return bool(plain) and groups["deadline"] == "-"
+    if kind == "server":
+        return groups["deadline"] == "-"
+    return kind not in NOT_BUILT
 
 
 def place_of(kind):
@@ -117,9 +136,17 @@ def add(script, kind, groups):
     if kind == "rounds":
         script.rounds = int(groups["u64"])
     elif kind == "client":
-        script.clients.append((int(groups["u32"]), groups["address"].removeprefix(PLAIN).encode()))
+        hello = b"" if groups["hello"] in "-." else bytes.fromhex(groups["hello"])
+        path = groups["address"].removeprefix(PLAIN).encode()
+        script.sessions.append(Client(groups["mech"], int(groups["u32"]), hello, groups["flatpak"] == "y", path))
+    elif kind == "server":
+        permitted = None if groups["u32"] is None else int(groups["u32"])
+        script.sessions.append(Server(groups["guid"].lower(), groups["mech"], permitted))
     elif kind.startswith("dial"):
-        script.dials.setdefault(int(groups["u32"]), []).append(kind == "dial open")
+        script.dials.setdefault(int(groups["u32"]), []).append(groups["flag"] == "y" if kind == "dial open" else None)
+    elif kind.startswith("send"):
+        answer = int(groups["u64"]) if kind == "send took" else kind.split()[1]
+        script.sends.setdefault(int(groups["u32"]), []).append(answer)
     elif kind.startswith("recv"):
         answer = bytes.fromhex(groups["bytes"]) if kind == "recv bytes" else kind.split()[1]
         script.reads.setdefault(int(groups["u32"]), []).append(answer)
@@ -150,7 +177,7 @@ def read(data):
             raise Refused(number, "not-built")
         if not in_order(found[0], last):
             raise Refused(number, "order")
-        if any(name >= len(script.clients) for name in names_of(*found)):
+        if any(name >= len(script.sessions) for name in names_of(*found)):
             raise Refused(number, "session")
         last = place_of(found[0])
         add(script, *found)

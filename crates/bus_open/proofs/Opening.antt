@@ -1,8 +1,9 @@
 -- What the answer of `open_all` over a new scene says of a script.
-use Rattle.std.proofs.Common.{◌≡◌, ℕ, ◌<◌, ◌⊎◌, inl, inr, List, [], ◌++◌, refl, sym, ◌∙◌, ap, subst, arith}
+use Rattle.std.proofs.Common.{◌≡◌, ℕ, ◌<◌, ◌⊎◌, inl, inr, Some, List, [], ◌++◌, refl, sym, ◌∙◌, ap, subst, arith}
+use Rattle.std.proofs.lemmas.Option.{same_Some}
 use Rattle.react_core.specs.declared.outside.Event.{Event}
 use Rattle.react_core.specs.Core.{Core}
-use Rattle.react_core.specs.Told.{Rose}
+use Rattle.react_core.specs.Told.{Rose, told as with_told}
 use Rattle.react_core.specs.declared.reactor.Counter.{Counter}
 use Rattle.bus_script.specs.declared.ended.Ended.{Ended}
 use Rattle.bus_peers.specs.declared.session.Session.{Session}
@@ -16,12 +17,12 @@ use Rattle.bus_open.specs.Run.{ComesTo, PollerFails, RunsOut, status_of}
 -- at Ok
 pub comes : (answers left : Queues) (sessions : List Session) (rounds : ℕ) (old new : Core) (endeds : List Ended) (start told shown : List Event) →
     left ≡ answers → start ≡ [] → shown ≡ told → Follows left told → faults_of_poller told ≡ faults_of_poller start →
-    ((r : List Event) × (told ≡ start ++ r) × Opened sessions rounds old new endeds r × Unit {0}) → ComesTo answers sessions rounds endeds shown
+    ((r : List Event) × (Some told ≡ with_told (Some start) r) × Opened sessions rounds old new endeds r × Unit {0}) → ComesTo answers sessions rounds endeds shown
 comes answers left sessions rounds old new endeds start told shown plays none are follows calm opens = record {
   follows = subst (λ (r : List Event). Follows answers r) (sym are) (subst (λ (q : Queues). Follows q told) plays follows);
   faultless = ap faults_of_poller are ∙ (calm ∙ ap faults_of_poller none);
   armed = opens.2.armed;
-  headline = subst (λ (r : List Event). Headline sessions rounds opens.2.armed endeds r) (sym (are ∙ (opens.1 ∙ ap (λ t. t ++ opens.0) none))) opens.2.headline;
+  headline = subst (λ (r : List Event). Headline sessions rounds opens.2.armed endeds r) (sym (are ∙ (same_Some told (start ++ opens.0) opens.1 ∙ ap (λ t. t ++ opens.0) none))) opens.2.headline;
 }
 
 -- where the poller failed

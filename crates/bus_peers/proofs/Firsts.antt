@@ -4,7 +4,7 @@ use Rattle.std.specs.Option.{option_map}
 use Rattle.react_core.specs.declared.source.Source.{Source}
 use Rattle.react_core.specs.declared.outside.Event.{Event}
 use Rattle.react_core.specs.declared.outside.Event.TheVariants as event
-use Rattle.react_core.specs.declared.outside.Question.TheVariants as question
+use Rattle.react_core.specs.declared.outside.Question.{Question}
 use Rattle.react_core.specs.declared.outside.Opened.{Opened}
 use Rattle.react_core.specs.declared.reactor.ReactError.{ReactError}
 use Rattle.react_core.specs.declared.reactor.ReactError.TheVariants as react_error
@@ -96,7 +96,7 @@ module _ (old mid : Core) (wire key : ℕ) (free : source_of old.sources key ≡
       )
   inserted-tags r1 r2 new client slot.Refused new_wire (h, h', calls, o, x) = absurd x.stays
 
-  pub inserted-registers : (s : Session) (passes : Bool) (r0 r1 r2 : Option (List Event)) (new : Core) (client : Opening) (c : Slot) → (talk : List (List ℕ) → Said) × (conversation s.party passes ≡ Some talk) × StandsIn talk [] client → client.written ≡ [] →
+  pub inserted-registers : (s : Session) (passes : Bool) (r0 r1 r2 : Option (List Event)) (new : Core) (client : Opening) (c : Slot) → (talk : List (List ℕ) → Said) × (conversation s.party passes ≡ talk) × StandsIn talk [] client → client.written ≡ [] →
       r1 ≡ told r0 (event.Add wire key true ∷ []) → Stays wire key r1 r2 mid new client c → Registers s wire passes r0 r2 old new c
   inserted-registers s passes r0 r1 r2 new client c (talk, begun, stands) unwritten added stays =
       let S : Option (List Event) → Type 0 = λ r. Stays wire key r r2 mid new client c in (
@@ -131,22 +131,22 @@ insert-keeps wire (react_error.Exhausted counter value) r0 r1 old new rests gain
 
 -- what the dialling told
 abbrev pub Dials : Session → ℕ → Option Opened → Option (List Event) → Option (List Event) → Type 0
-Dials s wire opened r0 r1 = (path : List ℕ) × (first_question s.party ≡ Some (question.Unix path)) × (r1 ≡ told r0 (dial_event wire path opened ∷ []))
+Dials s wire opened r0 r1 = (asked : Question) × (first_question s.party ≡ Some asked) × (r1 ≡ told r0 (dial_event wire asked opened ∷ []))
 
 pub first-undialled : (s : Session) (wire : ℕ) (opened : Option Opened) (r0 r1 : Option (List Event)) (core : Core) (e : Ended) → Dials s wire opened r0 r1 → opened ≡ None →
     e ≡ record { ending = ending.Connection; written = []; leftover = []; wire = wire; moment = None } → FirstVisits s wire r0 r1 core core (slot.Ended e)
-first-undialled s wire opened r0 r1 core e (path, asks, gained) none says = undialled path e asks (gained ∙ ap (λ o. told r0 (dial_event wire path o ∷ [])) none) refl refl says
+first-undialled s wire opened r0 r1 core e (asked, asks, gained) none says = undialled asked e asks (gained ∙ ap (λ o. told r0 (dial_event wire asked o ∷ [])) none) refl refl says
 
 pub first-dialled : (s : Session) (wire : ℕ) (opened : Option Opened) (o : Opened) (r0 r1 r2 : Option (List Event)) (old new : Core) (c : Slot) → Dials s wire opened r0 r1 → opened ≡ Some o →
     Registers s wire o.passes r1 r2 old new c → FirstVisits s wire r0 r2 old new c
-first-dialled s wire opened o r0 r1 r2 old new c (path, asks, gained) some registers =
+first-dialled s wire opened o r0 r1 r2 old new c (asked, asks, gained) some registers =
     let R : Option (List Event) → Type 0 = λ r. Registers s wire o.passes r r2 old new c in
-    dialled path o.passes asks (subst R (gained ∙ ap (λ x. told r0 (dial_event wire path x ∷ [])) some) registers)
+    dialled asked o.passes asks (subst R (gained ∙ ap (λ x. told r0 (dial_event wire asked x ∷ [])) some) registers)
 
-dial-quiet : (wire : ℕ) (path : List ℕ) (opened : Option Opened) → waits_in (dial_event wire path opened ∷ []) ≡ 0
-dial-quiet wire path None = refl
-dial-quiet wire path (Some o) = refl
+dial-quiet : (wire : ℕ) (asked : Question) (opened : Option Opened) → waits_in (dial_event wire asked opened ∷ []) ≡ 0
+dial-quiet wire asked None = refl
+dial-quiet wire asked (Some o) = refl
 
 pub dialled-keeps : (s : Session) (wire : ℕ) (opened : Option Opened) (r0 r1 r2 : Option (List Event)) (old new : Core) → Dials s wire opened r0 r1 → Keeps (tags old.sources) r1 r2 old new → Keeps (tags old.sources) r0 r2 old new
-dialled-keeps s wire opened r0 r1 r2 old new (path, asks, gained) keeps =
-    keeps-after (tags old.sources) r0 r1 r2 old old new (dial_event wire path opened ∷ []) gained (dial-quiet wire path opened) refl refl keeps
+dialled-keeps s wire opened r0 r1 r2 old new (asked, asks, gained) keeps =
+    keeps-after (tags old.sources) r0 r1 r2 old old new (dial_event wire asked opened ∷ []) gained (dial-quiet wire asked opened) refl refl keeps

@@ -3,10 +3,11 @@ use Rattle.std.proofs.Common.{rules, ◌≡◌, ◌≢◌, ℕ, ◌+◌, Bool, t
 use Rattle.std.specs.Option.{option_map, option_and_then}
 use Rattle.std.proofs.lemmas.List.{append_assoc, append-nil}
 use Rattle.std.proofs.lemmas.Bool.{both_ways, ne_eqb, eq-eqb}
-use Rattle.std.proofs.lemmas.Option.{same_Some}
+use Rattle.std.proofs.lemmas.Option.{none-some, same_Some}
 use Rattle.react_core.specs.declared.outside.Event.{Event}
 use Rattle.react_core.specs.declared.outside.Event.TheVariants as event
 use Rattle.react_core.specs.declared.outside.DialAnswer.TheVariants as dial_answer
+use Rattle.react_core.specs.declared.outside.Question.{Question}
 use Rattle.react_core.specs.declared.outside.Question.TheVariants as question
 use Rattle.react_core.specs.declared.reactor.Dir.{Dir}
 use Rattle.react_core.specs.declared.reactor.Dir.TheVariants.{Read, Write}
@@ -22,7 +23,10 @@ use Rattle.bus_peers.specs.declared.visiting.Slot.{Slot}
 use Rattle.bus_peers.specs.declared.visiting.Slot.TheVariants as slot
 use Rattle.bus_peers.specs.declared.visiting.Sleeper.{Sleeper}
 use Rattle.bus_peers.specs.Parts.{part}
-use Rattle.bus_peers.specs.Dialled.{first_question, conversation}
+use Rattle.bus_address.specs.Plain.{plain_path}
+use Rattle.bus_peers.specs.declared.session.Party.{Party}
+use Rattle.bus_peers.specs.declared.session.Party.TheVariants as party
+use Rattle.bus_peers.specs.Dialled.{first_question, conversation, dialled, fails, opens, is_same}
 use Rattle.bus_peers.specs.Alone.{Outcome, dials, goes_through, outcome_of, alone, outcome, HasEnded}
 use Rattle.bus_peers.specs.Headline.{after_begun}
 use Rattle.bus_peers.specs.Registry.{Held, Idle, waits, side_held, held_at, with_held, registry}
@@ -41,8 +45,8 @@ use Rattle.bus_peers.proofs.Armings.{armed-append, calls-arm-none, visit-arms-ot
 plus_none : (a b : ℕ) → a ≡ 0 → a + b ≡ b
 plus_none a b e = omega arith
 
-other_dial : (wire w key : ℕ) (path : List ℕ) (passes : Bool) → w ≢ wire → part w (event.Dial wire (question.Unix path) (dial_answer.Opened passes) ∷ event.Add wire key true ∷ []) ≡ []
-other_dial wire w key path passes other = rw (ne_eqb wire w (λ e. other (sym e))) refl
+other_dial : (wire w key : ℕ) (asked : Question) (passes : Bool) → w ≢ wire → part w (event.Dial wire asked (dial_answer.Opened passes) ∷ event.Add wire key true ∷ []) ≡ []
+other_dial wire w key asked passes other = rw (ne_eqb wire w (λ e. other (sym e))) refl
 
 -- ---- a session alone
 
@@ -270,21 +274,41 @@ goes-again s wire key q r0 r1 old new c slot same were talking stays =
 
 -- ---- a first visit
 
--- the dialling failed
-alone-failed : (s : Session) (wire : ℕ) (path : List ℕ) → first_question s.party ≡ Some (question.Unix path) →
-    alone s (event.Dial wire (question.Unix path) dial_answer.Failed ∷ []) ≡ Some (record { ending = ending.Connection; written = []; leftover = [] })
-unfolding alone
-alone-failed s wire path asks = rw (asks, bytes_eq-refl path) refl
+-- ---- the question of a session
 
-goes-undialled : (s : Session) (wire : ℕ) (q : List Event) (r0 r1 : Option (List Event)) (old : Core) (path : List ℕ) → registry [] q ≡ map shown old.sources → part wire q ≡ [] → Rests old →
-    first_question s.party ≡ Some (question.Unix path) → r1 ≡ told r0 (event.Dial wire (question.Unix path) dial_answer.Failed ∷ []) →
-    Goes s wire q r0 r1 old old (slot.Ended (record { ending = ending.Connection; written = []; leftover = []; wire = wire; moment = None })) (event.Dial wire (question.Unix path) dial_answer.Failed ∷ [])
-goes-undialled s wire q r0 r1 old path same none rests asks gained =
-    let dial : Event = event.Dial wire (question.Unix path) dial_answer.Failed in
+-- what the answers to a session's question come to
+record Known (p : Party) (asked : Question) : Type 0 where
+  same : is_same asked asked ≡ true
+  failed : dialled p asked dial_answer.Failed ≡ Some (fails ending.Connection)
+  opened : (passes : Bool) → dialled p asked (dial_answer.Opened passes) ≡ Some (opens (conversation p passes))
+
+known-path : (p : Party) (asked : Question) (path : Option (List ℕ)) → option_map question.Unix path ≡ Some asked → Known p asked
+known-path p asked None is = absurd (none-some asked is)
+known-path p asked (Some path) is =
+    let K : Question → Type 0 = Known p in
+    subst K (same_Some (question.Unix path) asked is) (record { same = bytes_eq-refl path; failed = refl; opened = λ passes. refl })
+
+known : (p : Party) (asked : Question) → first_question p ≡ Some asked → Known p asked
+known (party.Client address config) asked is = known-path (party.Client address config) asked (plain_path address) is
+known (party.Server config) asked is =
+    let K : Question → Type 0 = Known (party.Server config) in
+    subst K (same_Some question.Accept asked is) (record { same = refl; failed = refl; opened = λ passes. refl })
+
+-- the dialling failed
+alone-failed : (s : Session) (wire : ℕ) (asked : Question) → first_question s.party ≡ Some asked →
+    alone s (event.Dial wire asked dial_answer.Failed ∷ []) ≡ Some (record { ending = ending.Connection; written = []; leftover = [] })
+unfolding alone
+alone-failed s wire asked asks = let k : Known s.party asked = known s.party asked asks in rw (asks, k.same, k.failed) refl
+
+goes-undialled : (s : Session) (wire : ℕ) (q : List Event) (r0 r1 : Option (List Event)) (old : Core) (asked : Question) → registry [] q ≡ map shown old.sources → part wire q ≡ [] → Rests old →
+    first_question s.party ≡ Some asked → r1 ≡ told r0 (event.Dial wire asked dial_answer.Failed ∷ []) →
+    Goes s wire q r0 r1 old old (slot.Ended (record { ending = ending.Connection; written = []; leftover = []; wire = wire; moment = None })) (event.Dial wire asked dial_answer.Failed ∷ [])
+goes-undialled s wire q r0 r1 old asked same none rests asks gained =
+    let dial : Event = event.Dial wire asked dial_answer.Failed in
     let o : Outcome = record { ending = ending.Connection; written = []; leftover = [] } in
     let own : part wire (dial ∷ []) ≡ dial ∷ [] = rw (eq-eqb wire wire refl) refl in
     let mine : part wire (q ++ dial ∷ []) ≡ dial ∷ [] = part-append wire q (dial ∷ []) ∙ (ap (λ x. x ++ part wire (dial ∷ [])) none ∙ own) in
-    let out : alone s (part wire (q ++ dial ∷ [])) ≡ Some o = ap (alone s) mine ∙ alone-failed s wire path asks in
+    let out : alone s (part wire (q ++ dial ∷ [])) ≡ Some o = ap (alone s) mine ∙ alone-failed s wire asked asks in
     let still : registry [] (q ++ dial ∷ []) ≡ registry [] q = registry-append [] q (dial ∷ []) in
     record {
       gained = gained;
@@ -302,9 +326,9 @@ goes-undialled s wire q r0 r1 old path same none rests asks gained =
     }
 
 -- the dialling opened a wire
-through-opened : (s : Session) (wire : ℕ) (path : List ℕ) (passes : Bool) (talk : List (List ℕ) → Said) (c : Opening) → first_question s.party ≡ Some (question.Unix path) → conversation s.party passes ≡ Some talk → c.written ≡ [] →
-    goes_through s.party (option_map dials (first_question s.party)) (event.Dial wire (question.Unix path) (dial_answer.Opened passes) ∷ []) ≡ Some (stands_at talk [] c false)
-through-opened s wire path passes talk c asks begun unwritten = rw (asks, bytes_eq-refl path, begun, unwritten) refl
+through-opened : (s : Session) (wire : ℕ) (asked : Question) (passes : Bool) (talk : List (List ℕ) → Said) (c : Opening) → first_question s.party ≡ Some asked → conversation s.party passes ≡ talk → c.written ≡ [] →
+    goes_through s.party (option_map dials (first_question s.party)) (event.Dial wire asked (dial_answer.Opened passes) ∷ []) ≡ Some (stands_at talk [] c false)
+through-opened s wire asked passes talk c asks begun unwritten = let k : Known s.party asked = known s.party asked asks in rw (asks, k.same, k.opened passes, begun, unwritten) refl
 
 new_key : (held : List Held) (key k : ℕ) (x : Held) → held_at held key ≡ None → held_at held k ≡ Some x → key ≢ k
 new_key held key k x free at = λ e. let f : None ≡ Some x = sym free ∙ (ap (held_at held) e ∙ at) in cc
@@ -316,11 +340,11 @@ new-idle held h x d free read write at = idle-of d (same_Some h x (sym (with-her
   idle-of Read is = ap (λ y. waits y.read) (sym is) ∙ ap waits read
   idle-of Write is = ap (λ y. waits y.write) (sym is) ∙ ap waits write
 
-first-by : (s : Session) (wire key : ℕ) (q : List Event) (r0 r1 : Option (List Event)) (old mid new : Core) (c : Slot) (path : List ℕ) (passes : Bool) → part wire q ≡ [] → held_at (registry [] q) key ≡ None → mid ≡ inserted old key wire →
-    (v : List Event) × StayGoes s wire (q ++ event.Dial wire (question.Unix path) (dial_answer.Opened passes) ∷ event.Add wire key true ∷ []) key
-    (told (told r0 (event.Dial wire (question.Unix path) (dial_answer.Opened passes) ∷ [])) (event.Add wire key true ∷ [])) r1 mid new c v → (v : List Event) × Goes s wire q r0 r1 old new c v
-first-by s wire key q r0 r1 old mid new c path passes none free is (v, x) =
-    let dial : Event = event.Dial wire (question.Unix path) (dial_answer.Opened passes) in
+first-by : (s : Session) (wire key : ℕ) (q : List Event) (r0 r1 : Option (List Event)) (old mid new : Core) (c : Slot) (asked : Question) (passes : Bool) → part wire q ≡ [] → held_at (registry [] q) key ≡ None → mid ≡ inserted old key wire →
+    (v : List Event) × StayGoes s wire (q ++ event.Dial wire asked (dial_answer.Opened passes) ∷ event.Add wire key true ∷ []) key
+    (told (told r0 (event.Dial wire asked (dial_answer.Opened passes) ∷ [])) (event.Add wire key true ∷ [])) r1 mid new c v → (v : List Event) × Goes s wire q r0 r1 old new c v
+first-by s wire key q r0 r1 old mid new c asked passes none free is (v, x) =
+    let dial : Event = event.Dial wire asked (dial_answer.Opened passes) in
     let add : Event = event.Add wire key true in
     let pre : List Event = dial ∷ add ∷ [] in
     let held : Held = record { key = key; wire = wire; read = Idle; write = Idle } in
@@ -333,7 +357,7 @@ first-by s wire key q r0 r1 old mid new c path passes none free is (v, x) =
         gained = x.gained ∙ (ap (λ r. told r v) (told-told r0 (dial ∷ []) (add ∷ [])) ∙ told-told r0 pre v);
         visit = first (dial ∷ []) v key none (refl, tt {0}) free x.stay;
         shows = ap (registry []) (sym assoc) ∙ x.shows;
-        others = λ w other. part-append w pre v ∙ (ap (λ y. y ++ part w v) (other_dial wire w key path passes other) ∙ x.others w other);
+        others = λ w other. part-append w pre v ∙ (ap (λ y. y ++ part w v) (other_dial wire w key asked passes other) ∙ x.others w other);
         keeps = λ k y at other. ap (λ z. held_at (registry [] z) k) (sym assoc)
             ∙ x.keeps k y (ap (λ z. held_at z k) mid' ∙ with-keeps (registry [] q) held k y at (new_key (registry [] q) key k y free at)) other;
         arms = λ k y d at other.
@@ -350,11 +374,11 @@ first-by s wire key q r0 r1 old mid new c path passes none free is (v, x) =
       },
     )
 
-goes-opened : (s : Session) (wire : ℕ) (q : List Event) (r0 r1 : Option (List Event)) (old new : Core) (c : Slot) (path : List ℕ) (passes : Bool) (talk : List (List ℕ) → Said) (client : Opening) (key : ℕ) (mid : Core) →
-    registry [] q ≡ map shown old.sources → part wire q ≡ [] → first_question s.party ≡ Some (question.Unix path) →
-    Registered s wire passes (told r0 (event.Dial wire (question.Unix path) (dial_answer.Opened passes) ∷ [])) r1 old new c talk client key mid → (v : List Event) × Goes s wire q r0 r1 old new c v
-goes-opened s wire q r0 r1 old new c path passes talk client key mid same none asks r =
-    let dial : Event = event.Dial wire (question.Unix path) (dial_answer.Opened passes) in
+goes-opened : (s : Session) (wire : ℕ) (q : List Event) (r0 r1 : Option (List Event)) (old new : Core) (c : Slot) (asked : Question) (passes : Bool) (talk : List (List ℕ) → Said) (client : Opening) (key : ℕ) (mid : Core) →
+    registry [] q ≡ map shown old.sources → part wire q ≡ [] → first_question s.party ≡ Some asked →
+    Registered s wire passes (told r0 (event.Dial wire asked (dial_answer.Opened passes) ∷ [])) r1 old new c talk client key mid → (v : List Event) × Goes s wire q r0 r1 old new c v
+goes-opened s wire q r0 r1 old new c asked passes talk client key mid same none asks r =
+    let dial : Event = event.Dial wire asked (dial_answer.Opened passes) in
     let add : Event = event.Add wire key true in
     let pre : List Event = dial ∷ add ∷ [] in
     let held : Held = record { key = key; wire = wire; read = Idle; write = Idle } in
@@ -363,17 +387,17 @@ goes-opened s wire q r0 r1 old new c path passes talk client key mid same none a
     let shows' : registry [] (q ++ pre) ≡ map shown mid.sources = registry-append [] q pre ∙ (ap (λ x. with_held x held) same ∙ r.shows) in
     let free : held_at (registry [] q) key ≡ None = ap (λ x. held_at x key) same ∙ r.free in
     let were : ArmedWhere key (q ++ pre) = λ x d at up. absurd (both_ways (waits (side_held d x)) (new-idle (registry [] q) held x d free refl refl (ap (λ y. held_at y key) (sym (registry-append [] q pre)) ∙ at)) up) in
-    first-by s wire key q r0 r1 old mid new c path passes none free r.core
+    first-by s wire key q r0 r1 old mid new c asked passes none free r.core
     (stay-goes s wire key (q ++ pre) (told (told r0 (dial ∷ [])) (add ∷ [])) r1 mid new client talk [] false shows' were r.stands
-    (ap (goes_through s.party (option_map dials (first_question s.party))) mine ∙ through-opened s wire path passes talk client asks r.begins r.unwritten) c r.stays)
+    (ap (goes_through s.party (option_map dials (first_question s.party))) mine ∙ through-opened s wire asked passes talk client asks r.begins r.unwritten) c r.stays)
 
 pub goes-first : (s : Session) (wire : ℕ) (q : List Event) (r0 r1 : Option (List Event)) (old new : Core) (slot : Slot) → registry [] q ≡ map shown old.sources → part wire q ≡ [] → Rests old →
     FirstVisits s wire r0 r1 old new slot → (v : List Event) × Goes s wire q r0 r1 old new slot v
-goes-first s wire q r0 r1 old new c same none rests (visited.undialled path e asks gained still is says) =
-    let dial : Event = event.Dial wire (question.Unix path) dial_answer.Failed in
-    let went : Goes s wire q r0 r1 old old (slot.Ended (record { ending = ending.Connection; written = []; leftover = []; wire = wire; moment = None })) (dial ∷ []) = goes-undialled s wire q r0 r1 old path same none rests asks gained in
+goes-first s wire q r0 r1 old new c same none rests (visited.undialled asked e asks gained still is says) =
+    let dial : Event = event.Dial wire asked dial_answer.Failed in
+    let went : Goes s wire q r0 r1 old old (slot.Ended (record { ending = ending.Connection; written = []; leftover = []; wire = wire; moment = None })) (dial ∷ []) = goes-undialled s wire q r0 r1 old asked same none rests asks gained in
     let Q : Slot → Type 0 = λ y. Goes s wire q r0 r1 old old y (dial ∷ []) in
     let R : Core → Type 0 = λ x. Goes s wire q r0 r1 old x c (dial ∷ []) in
     (dial ∷ [], subst R (sym still) (subst Q (sym (is ∙ ap (λ y. slot.Ended y) says)) went))
-goes-first s wire q r0 r1 old new c same none rests (visited.dialled path passes asks (talk, client, key, mid, r)) =
-    goes-opened s wire q r0 r1 old new c path passes talk client key mid same none asks r
+goes-first s wire q r0 r1 old new c same none rests (visited.dialled asked passes asks (talk, client, key, mid, r)) =
+    goes-opened s wire q r0 r1 old new c asked passes talk client key mid same none asks r

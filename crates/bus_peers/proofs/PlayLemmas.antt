@@ -3,9 +3,11 @@ use Rattle.std.proofs.Common.{◌≡◌, ℕ, ◌<◌, ◌≤◌, Bool, true, fa
 use Rattle.std.specs.Prelude.{◌==◌, slice_index_or, slice_set}
 use Rattle.std.proofs.lemmas.List.{append_assoc, append-nil, length-set}
 use Rattle.std.proofs.lemmas.List.Sums.{fold-append}
+use Rattle.std.proofs.lemmas.Bool.{both_ways}
 use Rattle.std.proofs.lemmas.Grind.{common_steps}
 use Rattle.react_core.specs.declared.outside.Event.{Event}
 use Rattle.react_core.specs.declared.outside.Event.TheVariants as event
+use Rattle.react_core.specs.declared.outside.Question.{Question}
 use Rattle.react_core.specs.declared.outside.Question.TheVariants as question
 use Rattle.react_core.specs.declared.outside.DialAnswer.{DialAnswer}
 use Rattle.react_core.specs.declared.outside.DialAnswer.TheVariants as dial_answer
@@ -17,7 +19,7 @@ use Rattle.std.specs.Str.{bytes_eq}
 use Rattle.bus_peers.specs.declared.queues.Queue.{Queue}
 use Rattle.bus_peers.specs.declared.queues.Answers.{Answers}
 use Rattle.bus_peers.specs.Queues.{Queues, queue_at, next_answer, without_next}
-use Rattle.bus_peers.specs.Plays.{next, next_of, played_from, played, only_if, last_reading, later, source_key, after_call, bool_eq, dial_eq, recv_eq, send_eq, reading_given, outcome_given, dial_given, recv_given, send_given, after_recv}
+use Rattle.bus_peers.specs.Plays.{next, next_of, played_from, played, only_if, last_reading, later, source_key, after_call, bool_eq, dial_eq, recv_eq, send_eq, reading_given, outcome_given, dial_given, asks_for_wire, recv_given, send_given, after_recv}
 use Rattle.bus_peers.specs.Cursors.{whole, left, left_reads, passes_in, dialled, script_of, rest_of, Plays}
 
 pub played_from-last : (told : List Event) (q : Option Queues) (events : List Event) (e : Event) →
@@ -135,21 +137,56 @@ dial_eq-refl None = refl
 dial_eq-refl (Some passes) = bool_eq-refl passes
 
 -- a question for a connection is answered by one that opened, or by a fault
-pub dial_opened : (path : List ℕ) (a : Option DialAnswer) → dial_given (question.Unix path) a ≡ dialled (passes_in a)
-dial_opened path None = refl
-dial_opened path (Some (dial_answer.Opened passes)) = refl
-dial_opened path (Some (dial_answer.Found peers)) = refl
-dial_opened path (Some (dial_answer.Nonce bytes)) = refl
-dial_opened path (Some (dial_answer.Output success text)) = refl
-dial_opened path (Some dial_answer.Failed) = refl
+pub dial_opened : (asked : Question) (a : Option DialAnswer) → asks_for_wire asked ≡ true → dial_given asked a ≡ dialled (passes_in a)
+dial_opened asked None is = refl
+dial_opened (question.Unix path) (Some (dial_answer.Opened passes)) is = refl
+dial_opened (question.Unix path) (Some (dial_answer.Found peers)) is = refl
+dial_opened (question.Unix path) (Some (dial_answer.Nonce bytes)) is = refl
+dial_opened (question.Unix path) (Some (dial_answer.Output success text)) is = refl
+dial_opened (question.Unix path) (Some dial_answer.Failed) is = refl
+dial_opened (question.Abstract name) (Some (dial_answer.Opened passes)) is = refl
+dial_opened (question.Abstract name) (Some (dial_answer.Found peers)) is = refl
+dial_opened (question.Abstract name) (Some (dial_answer.Nonce bytes)) is = refl
+dial_opened (question.Abstract name) (Some (dial_answer.Output success text)) is = refl
+dial_opened (question.Abstract name) (Some dial_answer.Failed) is = refl
+dial_opened (question.Lookup host port) (Some (dial_answer.Opened passes)) is = absurd (both_ways false refl is)
+dial_opened (question.Lookup host port) (Some (dial_answer.Found peers)) is = absurd (both_ways false refl is)
+dial_opened (question.Lookup host port) (Some (dial_answer.Nonce bytes)) is = absurd (both_ways false refl is)
+dial_opened (question.Lookup host port) (Some (dial_answer.Output success text)) is = absurd (both_ways false refl is)
+dial_opened (question.Lookup host port) (Some dial_answer.Failed) is = absurd (both_ways false refl is)
+dial_opened (question.Tcp peer) (Some (dial_answer.Opened passes)) is = refl
+dial_opened (question.Tcp peer) (Some (dial_answer.Found peers)) is = refl
+dial_opened (question.Tcp peer) (Some (dial_answer.Nonce bytes)) is = refl
+dial_opened (question.Tcp peer) (Some (dial_answer.Output success text)) is = refl
+dial_opened (question.Tcp peer) (Some dial_answer.Failed) is = refl
+dial_opened (question.Nonce path) (Some (dial_answer.Opened passes)) is = absurd (both_ways false refl is)
+dial_opened (question.Nonce path) (Some (dial_answer.Found peers)) is = absurd (both_ways false refl is)
+dial_opened (question.Nonce path) (Some (dial_answer.Nonce bytes)) is = absurd (both_ways false refl is)
+dial_opened (question.Nonce path) (Some (dial_answer.Output success text)) is = absurd (both_ways false refl is)
+dial_opened (question.Nonce path) (Some dial_answer.Failed) is = absurd (both_ways false refl is)
+dial_opened (question.Start program arg0 args) (Some (dial_answer.Opened passes)) is = refl
+dial_opened (question.Start program arg0 args) (Some (dial_answer.Found peers)) is = refl
+dial_opened (question.Start program arg0 args) (Some (dial_answer.Nonce bytes)) is = refl
+dial_opened (question.Start program arg0 args) (Some (dial_answer.Output success text)) is = refl
+dial_opened (question.Start program arg0 args) (Some dial_answer.Failed) is = refl
+dial_opened question.Ibus (Some (dial_answer.Opened passes)) is = absurd (both_ways false refl is)
+dial_opened question.Ibus (Some (dial_answer.Found peers)) is = absurd (both_ways false refl is)
+dial_opened question.Ibus (Some (dial_answer.Nonce bytes)) is = absurd (both_ways false refl is)
+dial_opened question.Ibus (Some (dial_answer.Output success text)) is = absurd (both_ways false refl is)
+dial_opened question.Ibus (Some dial_answer.Failed) is = absurd (both_ways false refl is)
+dial_opened question.Accept (Some (dial_answer.Opened passes)) is = refl
+dial_opened question.Accept (Some (dial_answer.Found peers)) is = refl
+dial_opened question.Accept (Some (dial_answer.Nonce bytes)) is = refl
+dial_opened question.Accept (Some (dial_answer.Output success text)) is = refl
+dial_opened question.Accept (Some dial_answer.Failed) is = refl
 
-pub plays_dial : (a a' : Answers) (told told' : List Event) (keys : List (Option ℕ)) (last wire : ℕ) (path : List ℕ) (passes : Option Bool) → Plays a told keys last →
+pub plays_dial : (a a' : Answers) (told told' : List Event) (keys : List (Option ℕ)) (last wire : ℕ) (asked : Question) (passes : Option Bool) → asks_for_wire asked ≡ true → Plays a told keys last →
     passes ≡ passes_in (next_answer (queue_at (map left a.dials.items) wire)) →
     rest_of a' ≡ record (rest_of a) { dials = without_next (map left a.dials.items) wire } → script_of a' ≡ script_of a → length a'.dials.items ≡ length a.dials.items →
-    told' ≡ told ++ event.Dial wire (question.Unix path) (dialled passes) ∷ [] → Plays a' told' keys last
-plays_dial a a' told told' keys last wire path passes p given rest all lengths now =
-    rw now (plays_on a a' told keys keys last (event.Dial wire (question.Unix path) (dialled passes)) p
-    (only_if-true (dial_eq (dial_given (question.Unix path) (next_answer (queue_at (map left a.dials.items) wire))) (dialled passes)) (record (rest_of a) { dials = without_next (map left a.dials.items) wire }) (rw (dial_opened path (next_answer (queue_at (map left a.dials.items) wire)), sym given) (dial_eq-refl passes)) ∙ ap Some (sym rest))
+    told' ≡ told ++ event.Dial wire asked (dialled passes) ∷ [] → Plays a' told' keys last
+plays_dial a a' told told' keys last wire asked passes is p given rest all lengths now =
+    rw now (plays_on a a' told keys keys last (event.Dial wire asked (dialled passes)) p
+    (only_if-true (dial_eq (dial_given asked (next_answer (queue_at (map left a.dials.items) wire))) (dialled passes)) (record (rest_of a) { dials = without_next (map left a.dials.items) wire }) (rw (dial_opened asked (next_answer (queue_at (map left a.dials.items) wire)) is, sym given) (dial_eq-refl passes)) ∙ ap Some (sym rest))
     all p.sources (p.sessions ∙ sym lengths))
 
 pub send_eq-refl : (s : SendAnswer) → send_eq s s ≡ true

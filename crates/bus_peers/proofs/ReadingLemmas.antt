@@ -1,17 +1,14 @@
 -- What is known of a script that is read.
-use Rattle.std.proofs.Common.{◌≡◌, ℕ, ◌+◌, ◌<◌, ◌≤◌, ◌^◌, Bool, true, false, not, ◌&&◌, List, [], ◌∷◌, ◌++◌, length, map, Option, Some, None, Result, Ok, Err, refl, sym, ap, ◌∙◌, subst, if◌then◌else◌, arith, inl, inr, nat_lt}
-use Rattle.std.specs.Prelude.{is_ok, is_none, is_some, ◌==◌}
+use Rattle.std.proofs.Common.{◌≡◌, ℕ, ◌+◌, ◌<◌, ◌≤◌, ◌^◌, Bool, true, false, ◌&&◌, List, [], ◌∷◌, ◌++◌, length, map, Result, Ok, Err, refl, sym, ap, ◌∙◌, subst, if◌then◌else◌, arith, inl, inr, nat_lt}
+use Rattle.std.specs.Prelude.{is_ok, is_none, ◌==◌}
 use Rattle.std.specs.List.{list_all}
 use Rattle.std.specs.Result.{result_unwrap_or}
 use Rattle.std.proofs.lemmas.List.Folds.{list_all-append}
-use Rattle.std.proofs.lemmas.Bool.{true≢false}
+use Rattle.std.proofs.lemmas.Bool.{true≢false, and_from}
 use Rattle.std.proofs.lemmas.Grind.{common_steps}
 use Rattle.std.proofs.lemmas.List.Splits.{length-slice_split}
 use Rattle.std.proofs.lemmas.List.Sums.{count_by-le-length}
-use Rattle.bus_address.specs.Plain.{plain_path}
-use Rattle.bus_opening.specs.declared.mechanism.AuthMechanism.{AuthMechanism}
-use Rattle.bus_opening.specs.declared.mechanism.AuthMechanism.TheVariants.{External, Anonymous}
-use Rattle.bus_script.specs.Forms.{is_external as names_external, is_built as is_built_line, is_built_client, line_of}
+use Rattle.bus_script.specs.Forms.{is_built as is_built_line, is_built_session, line_of}
 use Rattle.bus_script.specs.Script.{Script, script, lines_in, built}
 use Rattle.bus_script.specs.Words.{◌>>=◌, words_of}
 use Rattle.bus_script.specs.declared.line.Reason.{Reason}
@@ -21,7 +18,7 @@ use Rattle.bus_script.specs.declared.line.Line.{Line}
 use Rattle.bus_script.specs.declared.line.Line.TheVariants as line
 use Rattle.bus_script.specs.declared.line.SessionLine.{SessionLine}
 use Rattle.bus_script.specs.declared.line.SessionLine.TheVariants as session_line
-use Rattle.bus_peers.specs.Sessions.{goes_by_external, is_built}
+use Rattle.bus_peers.specs.Sessions.{is_built}
 use Rattle.bus_peers.specs.Reading.{session_of}
 use Rattle.bus_peers.proofs.FaultlessLemmas.{both-left, both-right}
 
@@ -85,26 +82,11 @@ sessions_few text s is say =
     let sessions : length s.sessions ≤ length (lines_of s) = grind (arith, common_steps) in
     omega (arith, sessions, said_few (lines_in text) (lines_of s) say, lines_few text, bytes_few text s is)
 
-pub same_external : (m : Option AuthMechanism) → names_external m ≡ goes_by_external m
-same_external None = refl
-same_external (Some External) = refl
-same_external (Some Anonymous) = refl
-
-pub regrouped : (a b c d e : Bool) → ((((a && b) && c) && d) && e) ≡ true → (d && ((a && (b && c)) && e)) ≡ true
-regrouped true true true true true h = refl
-regrouped true true true true false h = h
-regrouped true true true false e h = h
-regrouped true true false d e h = absurd (true≢false (sym h))
-regrouped true false c d e h = absurd (true≢false (sym h))
-regrouped false b c d e h = absurd (true≢false (sym h))
-
 -- a session of a built line is built
 pub session_built : (l : SessionLine) → is_built_line (line.Session l) ≡ true → is_built (session_of l) ≡ true
-unfolding is_built_line is_built_client
-session_built (session_line.Client address config deadline) h =
-    regrouped (goes_by_external config.mechanism) (is_none config.hello) (not config.flatpak) (is_none deadline) (is_some (plain_path address))
-    (ap (λ x. (((x && is_none config.hello) && not config.flatpak) && is_none deadline) && is_some (plain_path address)) (sym (same_external config.mechanism)) ∙ h)
-session_built (session_line.Server config deadline) h = absurd (true≢false (sym h))
+unfolding is_built_line is_built_session
+session_built (session_line.Client address config deadline) h = h
+session_built (session_line.Server config deadline) h = and_from (is_none deadline) true h refl
 
 pub sessions_built : (ls : List SessionLine) → list_all (λ l. is_built_line (line.Session l)) ls ≡ true → list_all is_built (map session_of ls) ≡ true
 sessions_built [] h = refl

@@ -5,6 +5,7 @@ pub mod Cursors
 pub mod Reading
 pub mod Parts
 pub mod Dialled
+pub mod Conversations
 pub mod Alone
 pub mod Registry
 pub mod Asking

@@ -38,6 +38,15 @@ fits question.Ibus (dial_answer.Output success text) = true
 fits question.Accept (dial_answer.Opened passes) = true
 fits asked a = false
 
+-- whether the question asks for a connection
+abbrev pub asks_for_wire : Question → Bool
+asks_for_wire (question.Unix path) = true
+asks_for_wire (question.Abstract name) = true
+asks_for_wire (question.Tcp peer) = true
+asks_for_wire (question.Start program arg0 args) = true
+asks_for_wire question.Accept = true
+asks_for_wire asked = false
+
 -- the answer to a question: a fault where the next answer is none, or of another kind
 abbrev pub dial_given : Question → Option DialAnswer → DialAnswer
 dial_given asked None = dial_answer.Failed

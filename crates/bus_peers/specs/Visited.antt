@@ -3,7 +3,7 @@ use Rattle.std.specs.Prelude.{◌≡◌, ◌≢◌, ◌<◌, ◌≤◌, ℕ, ◌
 use Rattle.std.specs.Option.{option_and_then}
 use Rattle.react_core.specs.declared.outside.Event.{Event}
 use Rattle.react_core.specs.declared.outside.Event.TheVariants as event
-use Rattle.react_core.specs.declared.outside.Question.TheVariants as question
+use Rattle.react_core.specs.declared.outside.Question.{Question}
 use Rattle.react_core.specs.declared.outside.DialAnswer.TheVariants as dial_answer
 use Rattle.react_core.specs.declared.outside.Opened.{Opened}
 use Rattle.react_core.specs.declared.reactor.Dir.{Dir}
@@ -71,13 +71,13 @@ Keeps expected before after old new = (more : List Event) × Kept expected befor
 
 -- ---- dialling
 
--- the one Dial event of a session that asks for a Unix socket, and its answer
-abbrev pub dial_event : ℕ → List ℕ → Option Opened → Event
-dial_event wire path (Some opened) = event.Dial wire (question.Unix path) (dial_answer.Opened opened.passes)
-dial_event wire path None = event.Dial wire (question.Unix path) dial_answer.Failed
+-- the one Dial event of a session, and its answer
+abbrev pub dial_event : ℕ → Question → Option Opened → Event
+dial_event wire asked (Some opened) = event.Dial wire asked (dial_answer.Opened opened.passes)
+dial_event wire asked None = event.Dial wire asked dial_answer.Failed
 
 abbrev pub DialTold : {E : Type 0} → Session → ℕ → Result (Option Opened) E → Option (List Event) → Option (List Event) → Type 0
-DialTold s wire (Ok opened) before after = (path : List ℕ) × (first_question s.party ≡ Some (question.Unix path)) × (after ≡ told before (dial_event wire path opened ∷ []))
+DialTold s wire (Ok opened) before after = (asked : Question) × (first_question s.party ≡ Some asked) × (after ≡ told before (dial_event wire asked opened ∷ []))
 DialTold s wire (Err e) before after = after ≡ told before []
 
 -- ---- a NotReady
@@ -249,7 +249,7 @@ Stays wire key before after old new c s =
 
 -- a wire was opened: its source was registered, and the conversation begun
 pub record Registered (s : Session) (wire : ℕ) (passes : Bool) (before after : Option (List Event)) (old new : Core) (c : Slot) (talk : List (List ℕ) → Said) (client : Opening) (key : ℕ) (mid : Core) : Type 0 where
-  pub begins : conversation s.party passes ≡ Some talk
+  pub begins : conversation s.party passes ≡ talk
   pub stands : StandsIn talk [] client
   pub unwritten : client.written ≡ []
   pub free : held_at (map shown old.sources) key ≡ None
@@ -269,8 +269,8 @@ FirstTags wire old new slot.Refused = ⊥
 
 pub data FirstVisits (s : Session) (wire : ℕ) (before after : Option (List Event)) (old new : Core) (c : Slot) : Type 0 where
   -- the dialling failed
-  undialled : (path : List ℕ) (e : Ended) → first_question s.party ≡ Some (question.Unix path) →
-      after ≡ told before (event.Dial wire (question.Unix path) dial_answer.Failed ∷ []) → new ≡ old → c ≡ slot.Ended e →
+  undialled : (asked : Question) (e : Ended) → first_question s.party ≡ Some asked →
+      after ≡ told before (event.Dial wire asked dial_answer.Failed ∷ []) → new ≡ old → c ≡ slot.Ended e →
       e ≡ record { ending = ending.Connection; written = []; leftover = []; wire = wire; moment = None } → FirstVisits s wire before after old new c
-  dialled : (path : List ℕ) (passes : Bool) → first_question s.party ≡ Some (question.Unix path) →
-      Registers s wire passes (told before (event.Dial wire (question.Unix path) (dial_answer.Opened passes) ∷ [])) after old new c → FirstVisits s wire before after old new c
+  dialled : (asked : Question) (passes : Bool) → first_question s.party ≡ Some asked →
+      Registers s wire passes (told before (event.Dial wire asked (dial_answer.Opened passes) ∷ [])) after old new c → FirstVisits s wire before after old new c

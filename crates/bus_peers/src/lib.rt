@@ -2,6 +2,7 @@
 #![tactic(auto)]
 
 mod closing;
+mod conversation;
 mod from_script;
 mod open;
 mod queues;

@@ -6,7 +6,6 @@ ghost use Rattle.react_core.specs.Core.{IsIdle};
 ghost use Rattle.react_core.specs.Told.{told, Rose};
 ghost use Rattle.react_core.specs.declared.outside.Event.{Event};
 ghost use Rattle.bus_peers.specs.Headline.{Opened, RefusedWith, OpenCounted, Completes};
-ghost use Rattle.bus_peers.specs.Plays.{faults_of_poller};
 ghost use Rattle.bus_peers.specs.Sessions.{is_built};
 ghost use Rattle.bus_peers.specs.Shown.{Rests, tags};
 ghost use Rattle.bus_peers.specs.Slots.{Owned, AllOpen, Went, Rested, Refuses, Halts};
@@ -14,7 +13,6 @@ ghost use Rattle.bus_peers.specs.Visited.{VisitCounted};
 
 use crate::closing::{endeds_in, remove_sources};
 use crate::rounds::{Nobody, go_rounds};
-use crate::scene::Scene;
 use crate::session::Session;
 use crate::visiting::{Slot, first_visit};
 use bus_script::Ended;
@@ -142,7 +140,7 @@ fn open_rounds<O: Outside>(
     go_rounds(alloc, reactor, outside, slots, rounds)
 }
 
-/// Opens the sessions over any outside. Session i has wire i.
+/// All visits and rounds, the removals, and the endings.
 fn open_over<O: Outside>(
     alloc: Global,
     reactor: &mut Reactor,
@@ -168,31 +166,31 @@ fn open_over<O: Outside>(
     endeds_in(alloc, slots)
 }
 
-/// Opens the sessions over a scene. Session i has wire i.
+/// Opens the sessions over any outside. Session i has wire i.
 ///
-/// Each is visited once, in order: it dials, registers its wire in the reactor, and has its conversation until that ends
-/// or its wire isn't ready. Then, while one sleeps and fewer than `rounds` rounds came, one more comes, and those that it
-/// makes due are visited. At the end the sources of those that still sleep are taken out.
+/// Each is visited once, in order: it dials or takes the connection that its peer opened, registers its wire in the reactor, and
+/// has its conversation until that ends or its wire isn't ready. Then, while one sleeps and fewer than `rounds` rounds came, one
+/// more comes, and those that it makes due are visited. At the end the sources of those that still sleep are taken out.
 ///
-/// At Ok each session has what its own part of the record alone decides, and the record is settled. Poller: the poller
-/// failed. Exhausted: a round's number was needed, and the reactor's counter stood at its end. After every answer the
-/// reactor is idle.
-pub fn open_all(
+/// At Ok, where the outside tells its record, each session has what its own part of the record alone decides, and the record is
+/// settled. Poller: the poller failed. Exhausted: a round's number was needed, and the reactor's counter stood at its end. After
+/// every answer the reactor is idle.
+pub fn open_all<O: Outside>(
     alloc: Global,
     reactor: &mut Reactor,
-    scene: &mut Scene,
+    outside: &mut O,
     sessions: Vec<Session>,
     rounds: u64,
 ) -> Result<Vec<Ended>, OpenError>
     requires idle { IsIdle reactor.old.core }
     requires few { length sessions.items < 2 ^ 32 }
     requires built { list_all is_built sessions.items ≡ true }
-    ensures opened { (r : List Event) × (scene.new.told ≡ scene.old.told ++ r) × IfOk result (λ endeds. Opened sessions.items rounds reactor.old.core reactor.new.core endeds.items r) × RefusedWith sessions.items rounds reactor.old.core reactor.new.core result r }
-    ensures script { scene.new.script ≡ scene.old.script }
-    ensures cause { OpenCounted result (faults_of_poller scene.old.told) (faults_of_poller scene.new.told) }
-    ensures complete { ¬ Rose (faults_of_poller scene.old.told) (faults_of_poller scene.new.told) → reactor.old.core.ticker + rounds < 2 ^ 64 → Completes result }
+    ensures opened { (r : List Event) × (O.events outside.new ≡ told (O.events outside.old) r) × IfOk result (λ endeds. Opened sessions.items rounds reactor.old.core reactor.new.core endeds.items r) × RefusedWith sessions.items rounds reactor.old.core reactor.new.core result r }
+    ensures cause { OpenCounted result (O.poller_faults outside.old) (O.poller_faults outside.new) }
+    ensures complete { ¬ Rose (O.poller_faults outside.old) (O.poller_faults outside.new) → reactor.old.core.ticker + rounds < 2 ^ 64 → Completes result }
     ensures idle { IsIdle reactor.new.core }
+    ensures origin { O.origin outside.new ≡ O.origin outside.old }
     ensures reports { reactor.new.events ≡ reactor.old.events }
 {
-    open_over(alloc, reactor, scene, &sessions, rounds)
+    open_over(alloc, reactor, outside, &sessions, rounds)
 }

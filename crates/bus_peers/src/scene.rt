@@ -10,7 +10,7 @@ ghost use Rattle.react_core.specs.declared.outside.Event.{Event};
 ghost use Rattle.react_core.specs.declared.outside.Event.TheVariants as event;
 ghost use Rattle.react_core.specs.declared.outside.Question.TheVariants as question;
 ghost use Rattle.bus_peers.specs.Queues.{Queues, queue_at, next_answer};
-ghost use Rattle.bus_peers.specs.Plays.{Follows, HasNoPollerFault, faults_of_poller, last_reading, reading_given, outcome_given, send_given, recv_given, is_wait_given};
+ghost use Rattle.bus_peers.specs.Plays.{Follows, HasNoPollerFault, faults_of_poller, last_reading, reading_given, outcome_given, send_given, recv_given, is_wait_given, asks_for_wire};
 ghost use Rattle.bus_peers.specs.Cursors.{left, left_reads, script_of, IsPlaying, sent_of, passes_in, dialled, key_in, report_in};
 
 use crate::queues::{
@@ -254,13 +254,14 @@ fn dialled(passes: Option<bool>) -> DialAnswer
     }
 }
 
-/// Dials a Unix socket in the file system, and says whether the connection passes descriptors, where one opened.
-fn dial_path(player: &mut Player, wire: u32, path: Bytes) -> Option<bool>
+/// Answers a question for a connection: whether it passes descriptors, where one opened.
+fn dial(player: &mut Player, wire: u32, question: Question) -> Option<bool>
+    requires asks { asks_for_wire question ≡ true }
     requires playing { IsPlaying player.old }
     requires room { vec_len player.old.told < vec_capacity player.old.told }
     ensures playing { IsPlaying player.new }
     ensures script { script_of player.new.answers ≡ script_of player.old.answers }
-    ensures told { player.new.told.items ≡ player.old.told.items ++ event.Dial wire (question.Unix path) (dialled result) ∷ [] }
+    ensures told { player.new.told.items ≡ player.old.told.items ++ event.Dial wire question (dialled result) ∷ [] }
 {
     let passes = passes_in(next_at(&player.answers.dials, wire));
     advance_at(&mut player.answers.dials, wire);
@@ -268,7 +269,7 @@ fn dial_path(player: &mut Player, wire: u32, path: Bytes) -> Option<bool>
         &mut player.told,
         Event::Dial {
             wire,
-            question: Question::Unix(path),
+            question,
             answer: dialled(passes),
         },
     );
@@ -592,7 +593,15 @@ impl Dialer for Scene {
     fn dial_unix(&mut self, wire: u32, path: &str) -> Result<Opened, Fault> {
         let path = copy_of(self.alloc, path.as_bytes())?;
         reserve(&mut self.player.told)?;
-        match dial_path(&mut self.player, wire, path) {
+        match dial(&mut self.player, wire, Question::Unix(path)) {
+            Some(passes) => Ok(Opened { passes }),
+            None => Err(Fault::Failed),
+        }
+    }
+
+    fn accept(&mut self, wire: u32) -> Result<Opened, Fault> {
+        reserve(&mut self.player.told)?;
+        match dial(&mut self.player, wire, Question::Accept) {
             Some(passes) => Ok(Opened { passes }),
             None => Err(Fault::Failed),
         }

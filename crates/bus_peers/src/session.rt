@@ -2,10 +2,9 @@
 
 ghost use Rattle.std.specs.Prelude.{◌≡◌, string_bytes};
 ghost use Rattle.bus_peers.specs.declared.session.Party.TheVariants as party;
-ghost use Rattle.bus_peers.specs.Sessions.{is_external};
 
 use bus_address::plain_path;
-use bus_opening::{AuthMechanism, ClientConfig, ServerConfig, Text};
+use bus_opening::{ClientConfig, ServerConfig, Text};
 
 /// The side of the conversation that a session takes.
 #[derive(Debug, Drop)]
@@ -50,28 +49,15 @@ impl Session {
         }
     }
 
-    /// Whether `open_all` takes the session: a client under EXTERNAL at a plain path, without a hello, the flatpak setting
-    /// or a deadline.
+    /// Whether `open_all` takes the session: a client at a plain path or a server, without a deadline.
     pub fn is_built(&self) -> bool
         ensures value { result ≡ is_built self.now }
     {
         match &self.party {
-            Party::Client { address, config } => {
-                self.deadline.is_none()
-                    && is_external(config)
-                    && plain_path(address.as_str()).is_some()
+            Party::Client { address, .. } => {
+                self.deadline.is_none() && plain_path(address.as_str()).is_some()
             }
-            Party::Server(_) => false,
+            Party::Server(_) => self.deadline.is_none(),
         }
-    }
-}
-
-/// Whether a client goes by EXTERNAL, with nothing behind `BEGIN`.
-fn is_external(config: &ClientConfig) -> bool
-    ensures value { result ≡ is_external config.now }
-{
-    match config.mechanism {
-        Some(AuthMechanism::External) => config.hello.is_none() && !config.flatpak,
-        _ => false,
     }
 }

@@ -3,10 +3,7 @@
 ghost use Rattle.std.specs.Prelude.{◌≡◌, ◌<◌, ℕ, List, [], ◌∷◌, ◌++◌, map, Option, Some, None, true, false, IfOk, OnOk, OnErr, if◌then◌else◌};
 ghost use Rattle.react_core.specs.Told.{told};
 ghost use Rattle.react_core.specs.declared.outside.Event.{Event};
-ghost use Rattle.bus_opening.specs.Talk.{Said};
-ghost use Rattle.bus_opening.specs.Openings.{StandsIn};
 ghost use Rattle.bus_script.specs.declared.ended.Ending.TheVariants as ending;
-ghost use Rattle.bus_peers.specs.Dialled.{conversation};
 ghost use Rattle.bus_peers.specs.Registry.{held_at};
 ghost use Rattle.bus_peers.specs.Sessions.{is_built};
 ghost use Rattle.bus_peers.specs.Shown.{Rests, shown, tags, without_tag, has_wire};
@@ -14,10 +11,11 @@ ghost use Rattle.bus_peers.specs.Visited.{DialTold, ending_of, VisitCounted, Kee
 ghost use Rattle.bus_peers.specs.declared.visiting.Turn.TheVariants as turn;
 ghost use Rattle.bus_peers.specs.Registry.{Held};
 
+use crate::conversation::Conversation;
 use crate::open::OpenError;
 use crate::session::{Party, Session};
 use bus_address::plain_path;
-use bus_opening::{Client, Handshake, Step, Verdict};
+use bus_opening::{Handshake, Step, Verdict};
 use bus_script::{Ended, Ending};
 use futures::task::Poll;
 use react_core::outside::{Bytes, Dialer, Fault, Opened, OutOfMemory, Registrar, Wakes, Wire};
@@ -39,7 +37,7 @@ pub(crate) enum Turn {
 #[derive(Drop)]
 pub(crate) struct Sleeper {
     pub(crate) key: usize,
-    pub(crate) client: Client,
+    pub(crate) client: Conversation,
 }
 
 /// Where a session stands between its visits.
@@ -71,20 +69,11 @@ fn dial<D: Dialer>(
             },
             None => unreachable!(),
         },
-        Party::Server(_) => unreachable!(),
-    }
-}
-
-/// The opening of a session over a wire that was just opened.
-fn client_of(alloc: Global, session: &Session, passes: bool) -> Result<Client, OutOfMemory>
-    requires built { is_built session.now ≡ true }
-    ensures stands { IfOk result (λ c. (talk : List (List ℕ) → Said) × (conversation session.now.party passes ≡ Some talk) × StandsIn talk [] c) }
-    ensures written { IfOk result (λ c. c.written ≡ []) }
-    ensures open { IfOk result (λ c. c.ended ≡ false) }
-{
-    match &session.party {
-        Party::Client { config, .. } => Client::new(alloc, config, None, passes, false, &[]),
-        Party::Server(_) => unreachable!(),
+        Party::Server(_) => match dialer.accept(wire) {
+            Ok(opened) => Ok(Some(opened)),
+            Err(Fault::Failed) => Ok(None),
+            Err(Fault::OutOfMemory) => Err(OutOfMemory),
+        },
     }
 }
 
@@ -116,7 +105,7 @@ pub(crate) fn ended_of(
     alloc: Global,
     wire: u32,
     ending: Ending,
-    client: &Client,
+    client: &Conversation,
 ) -> Result<Ended, AllocError>
     ensures value { IfOk result (λ e. e ≡ record { ending = ending; written = client.now.written; leftover = client.now.rest; wire = wire; moment = None }) }
 {
@@ -181,7 +170,7 @@ fn take_turn<O: Wire + Registrar, W: Wakes>(
     wakes: &mut W,
     wire: u32,
     key: usize,
-    client: &mut Client,
+    client: &mut Conversation,
 ) -> Result<Turn, OpenError>
     requires holds { Holds reactor.old.core key wire }
     requires rests { Rests reactor.old.core }
@@ -215,7 +204,7 @@ fn resume<O: Wire + Registrar, W: Wakes>(
     wakes: &mut W,
     wire: u32,
     key: usize,
-    client: &mut Client,
+    client: &mut Conversation,
 ) -> Result<Option<Ending>, OpenError>
     requires holds { Holds reactor.old.core key wire }
     requires rests { Rests reactor.old.core }
@@ -289,7 +278,7 @@ fn visit_opened<O: Wire + Registrar, W: Wakes>(
 {
     insertion_changes_one_key();
     removal_undoes_insertion();
-    let client = client_of(alloc, session, passes)?;
+    let client = Conversation::begin(alloc, &session.party, passes)?;
     let key = reactor.insert_io(alloc, outside, wire)?;
     visit(
         alloc,

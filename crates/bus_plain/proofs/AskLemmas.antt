@@ -1,15 +1,8 @@
--- What is said, and where the next question is looked for.
-use Rattle.std.proofs.Common.{◌≡◌, ℕ, zero, suc, ◌+◌, ◌-◌, ◌<◌, Bool, true, false, List, Option, Some, None, refl, arith}
+-- Where the next question is looked for.
+use Rattle.std.proofs.Common.{◌≡◌, ℕ, zero, suc, ◌+◌, ◌-◌, ◌<◌, true, false, List, Option, Some, None, refl, arith}
 use Rattle.std.specs.Prelude.{is_some}
 use Rattle.std.specs.Option.{option_map}
-use Rattle.bus_opening.specs.declared.config.ClientConfig.{ClientConfig}
-use Rattle.bus_opening.specs.Talk.{Said, Turn, Ask, ask_now, ask_from, looked_from, onto, turn_from, said_of, talk}
-use Rattle.bus_opening.specs.Client.{Phase, first, step, opening, client}
-use Rattle.bus_plain.specs.Views.{terms, settings, said_by}
-
-pub talk_is : (config : ClientConfig) (passes : Bool) (ls o : List (List ℕ)) (t u : Turn Phase) (s : Said) → o ≡ opening (terms config passes) → t ≡ turn_from (step (settings config passes)) first ls → u ≡ onto o t → s ≡ said_of u → s ≡ said_by config passes ls
-unfolding client talk
-talk_is config passes ls o t u s e f g h = rw (h, g, e, f) refl
+use Rattle.bus_opening.specs.Talk.{Said, Ask, ask_now, ask_from, looked_from}
 
 pub ask_from-some : (talk : List (List ℕ) → Said) (b : List ℕ) (w k j : ℕ) (a : Ask) → Some a ≡ ask_now talk b w k j → a ≡ ask_from talk b w k j
 unfolding ask_from

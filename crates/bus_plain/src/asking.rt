@@ -2,14 +2,15 @@
 
 ghost use Rattle.std.specs.Prelude.{◌≡◌, ◌+◌, ◌≤◌, IfOk, Some, None, nat_lt, if◌then◌else◌, sum_by, length};
 ghost use Rattle.std.specs.Option.{option_map};
-ghost use Rattle.bus_opening.specs.Lines.{long};
 ghost use Rattle.bus_opening.specs.Talk.{piece_rest, ask_more, ask_by, ask_now, ask_from, ask, looked_from, left};
-ghost use Rattle.bus_plain.specs.Views.{said_by, as_status, as_ask};
+ghost use Rattle.bus_peers.specs.Dialled.{conversation};
+ghost use Rattle.bus_plain.specs.Views.{as_status, as_ask};
 
 use crate::lines::{feed_at, first_lines, following};
-use crate::talking::{Said, Status, talk};
+use crate::speaking::talk;
+use crate::turns::Status;
 use bus_address::Guid;
-use bus_opening::ClientConfig;
+use bus_peers::Party;
 use react_core::outside::{Bytes, OutOfMemory};
 use std::alloc::{AllocError, Global};
 
@@ -72,17 +73,17 @@ fn ask_by(status: Status, more: usize, after: &[u8]) -> Option<Asked>
 // What is asked where the first lines were looked at; none where the next line is to be looked at.
 fn ask_now(
     alloc: Global,
-    config: &ClientConfig,
+    party: &Party,
     passes: bool,
     got: &[u8],
     taken: usize,
     more: usize,
     looked: usize,
 ) -> Result<Option<Asked>, AllocError>
-    ensures value { IfOk result (λ a. option_map as_ask a ≡ ask_now (said_by config.now passes) got.now taken more looked) }
+    ensures value { IfOk result (λ a. option_map as_ask a ≡ ask_now (conversation party.now passes) got.now taken more looked) }
 {
     let lines = first_lines(alloc, got, looked)?;
-    let said = talk(alloc, config, passes, lines.as_slice())?;
+    let said = talk(alloc, party, passes, lines.as_slice())?;
     if let Some(rest) = piece_rest(taken, said.pieces.as_slice()) {
         let rest = Vec::from_slice(alloc, rest)?;
         return Ok(Some(Asked::Send(Bytes::from_vec(rest))));
@@ -93,7 +94,7 @@ fn ask_now(
 // The next question from these lines on.
 fn ask_from(
     alloc: Global,
-    config: &ClientConfig,
+    party: &Party,
     passes: bool,
     got: &[u8],
     taken: usize,
@@ -101,41 +102,42 @@ fn ask_from(
     looked: usize,
 ) -> Result<Asked, AllocError>
     requires few { more + looked ≤ 64 }
-    ensures value { IfOk result (λ a. as_ask a ≡ ask_from (said_by config.now passes) got.now taken more looked) }
+    ensures value { IfOk result (λ a. as_ask a ≡ ask_from (conversation party.now passes) got.now taken more looked) }
 {
-    let asked = ask_now(alloc, config, passes, got, taken, more, looked)?;
+    let asked = ask_now(alloc, party, passes, got, taken, more, looked)?;
     if let Some(asked) = asked {
         return Ok(asked);
     }
     if more == 0 {
         return Ok(Asked::TooManyCommands);
     }
-    ask_from(alloc, config, passes, got, taken, more - 1, looked + 1)
+    ask_from(alloc, party, passes, got, taken, more - 1, looked + 1)
 }
 
-/// What a client asks over a wire that it dialled without a GUID to expect, once these bytes came and so many of its own
-/// were taken: to read or to send, or how the conversation ends.
+/// What a party asks over its wire, once these bytes came and so many of its own were taken: to read or to send, or how
+/// the conversation ends (D-Bus specification, Authentication Protocol). `passes` where the wire could pass descriptors; a
+/// client is one that expects no GUID.
 ///
 /// # Errors
 ///
 /// Memory ran out.
 pub fn ask(
     alloc: Global,
-    config: &ClientConfig,
+    party: &Party,
     passes: bool,
     got: &[u8],
     taken: usize,
 ) -> Result<Asked, OutOfMemory>
-    ensures value { IfOk result (λ a. as_ask a ≡ ask (said_by config.now passes) got.now taken) }
+    ensures value { IfOk result (λ a. as_ask a ≡ ask (conversation party.now passes) got.now taken) }
 {
-    let asked = ask_from(alloc, config, passes, got, taken, 64, 0)?;
+    let asked = ask_from(alloc, party, passes, got, taken, 64, 0)?;
     Ok(asked)
 }
 
 // How many lines were looked at when that is asked.
 fn looked_from(
     alloc: Global,
-    config: &ClientConfig,
+    party: &Party,
     passes: bool,
     got: &[u8],
     taken: usize,
@@ -143,29 +145,29 @@ fn looked_from(
     looked: usize,
 ) -> Result<usize, AllocError>
     requires few { more + looked ≤ 64 }
-    ensures value { IfOk result (λ j. j ≡ looked_from (said_by config.now passes) got.now taken more looked) }
+    ensures value { IfOk result (λ j. j ≡ looked_from (conversation party.now passes) got.now taken more looked) }
 {
     if more == 0 {
         return Ok(looked);
     }
-    let asked = ask_now(alloc, config, passes, got, taken, more, looked)?;
+    let asked = ask_now(alloc, party, passes, got, taken, more, looked)?;
     if asked.is_some() {
         return Ok(looked);
     }
-    looked_from(alloc, config, passes, got, taken, more - 1, looked + 1)
+    looked_from(alloc, party, passes, got, taken, more - 1, looked + 1)
 }
 
 /// What came and was not looked at.
 pub(crate) fn left(
     alloc: Global,
-    config: &ClientConfig,
+    party: &Party,
     passes: bool,
     got: &[u8],
     taken: usize,
 ) -> Result<Bytes, AllocError>
-    ensures value { IfOk result (λ b. b ≡ left (said_by config.now passes) got.now taken) }
+    ensures value { IfOk result (λ b. b ≡ left (conversation party.now passes) got.now taken) }
 {
-    let looked = looked_from(alloc, config, passes, got, taken, 64, 0)?;
+    let looked = looked_from(alloc, party, passes, got, taken, 64, 0)?;
     let rest = Vec::from_slice(alloc, following(looked, got))?;
     Ok(Bytes::from_vec(rest))
 }

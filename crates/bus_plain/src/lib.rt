@@ -8,8 +8,11 @@ mod asking;
 mod going;
 mod lines;
 mod reading;
+mod serving;
 mod sessions;
+mod speaking;
 mod talking;
+mod turns;
 
 pub use asking::{Asked, ask};
 pub use going::Outcome;

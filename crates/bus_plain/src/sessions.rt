@@ -2,33 +2,45 @@
 
 ghost use Rattle.std.specs.Prelude.{◌≡◌, IfOk};
 ghost use Rattle.std.specs.Option.{option_map};
-ghost use Rattle.bus_peers.specs.declared.session.Party.TheVariants as party;
-ghost use Rattle.bus_peers.specs.Alone.{alone};
-ghost use Rattle.bus_plain.specs.Goings.{as_outcome, party_alone};
+ghost use Rattle.bus_peers.specs.Dialled.{first_question};
+ghost use Rattle.react_core.specs.declared.outside.Question.TheVariants as question;
+ghost use Rattle.bus_address.specs.Plain.{plain_path};
+ghost use Rattle.bus_peers.specs.declared.session.Party.{Party};
+ghost use Rattle.bus_peers.specs.Alone.{dials, alone};
+ghost use Rattle.bus_plain.specs.Goings.{as_outcome, as_progress};
 
-use crate::going::{Client, Outcome, Progress, goes_through, outcome_of};
+use crate::going::{Outcome, Progress, goes_through, outcome_of};
 use bus_address::plain_path;
 use bus_peers::{Party, Session};
-use react_core::outside::{Bytes, Event, OutOfMemory};
-use std::alloc::Global;
+use react_core::outside::{Bytes, Event, OutOfMemory, Question};
+use std::alloc::{AllocError, Global};
 
-// What a client comes to.
-fn client_alone(
-    alloc: Global,
-    client: Client<'_>,
-    part: &[Event],
-) -> Result<Option<Outcome>, OutOfMemory>
-    ensures value { IfOk result (λ o. option_map as_outcome o ≡ party_alone (party.Client client.entry.address.now client.entry.config.now) part.now) }
+// What a client asks first: the socket at the path of its address.
+fn unix_question(alloc: Global, address: &str) -> Result<Option<Question>, AllocError>
+    ensures value { IfOk result (λ q. q ≡ option_map question.Unix (plain_path address.now)) }
 {
-    let Some(path) = plain_path(client.address) else {
+    let Some(path) = plain_path(address) else {
         return Ok(None);
     };
     let path = Vec::from_slice(alloc, path.as_bytes())?;
-    let start = Some(Progress::Dials(Bytes::from_vec(path)));
-    match goes_through(alloc, client, start, part)? {
-        Some(progress) => outcome_of(alloc, client.config, progress),
-        None => Ok(None),
+    Ok(Some(Question::Unix(Bytes::from_vec(path))))
+}
+
+// What a party asks first: the socket at a path, or the connection that a peer opened.
+fn first_question(alloc: Global, party: &Party) -> Result<Option<Question>, AllocError>
+    ensures value { IfOk result (λ q. q ≡ first_question party.now) }
+{
+    match party {
+        Party::Client { address, .. } => unix_question(alloc, address.as_str()),
+        Party::Server(_) => Ok(Some(Question::Accept)),
     }
+}
+
+// A session at its first question.
+fn dialling(first: Option<Question>) -> Option<Progress>
+    ensures value { (p : Party) → option_map (as_progress p) result ≡ option_map dials first }
+{
+    first.map(Progress::Dials)
 }
 
 /// What a session comes to by the events of its own part; none where they are not those that it asks.
@@ -46,11 +58,10 @@ pub fn alone(
 ) -> Result<Option<Outcome>, OutOfMemory>
     ensures value { IfOk result (λ o. option_map as_outcome o ≡ alone session.now part.now) }
 {
-    match &session.party {
-        Party::Client { address, config } => {
-            let address = address.as_str();
-            client_alone(alloc, Client { address, config }, part)
-        }
-        Party::Server(_) => Ok(None),
+    let party = &session.party;
+    let start = dialling(first_question(alloc, party)?);
+    match goes_through(alloc, party, start, part)? {
+        Some(progress) => outcome_of(alloc, party, progress),
+        None => Ok(None),
     }
 }

@@ -2,23 +2,16 @@
 
 ghost use Rattle.std.specs.Prelude.{◌≡◌, ◌++◌, [], ◌∷◌, Bool, false, unwrap_or, IfOk};
 ghost use Rattle.bus_opening.specs.declared.config.ClientConfig.{ClientConfig};
-ghost use Rattle.bus_opening.specs.Talk.{ends, onto, turn_from, said_of};
-ghost use Rattle.bus_opening.specs.Client.{auth_line, end, mechanism_of, after_ok, step_command, step, opening, first, asking, begun};
-ghost use Rattle.bus_plain.specs.Views.{terms, settings, said_by, as_status, as_phase, as_turn, as_said};
+ghost use Rattle.bus_opening.specs.Talk.{ends, turn_from, said_of};
+ghost use Rattle.bus_opening.specs.Client.{auth_line, end, mechanism_of, after_ok, step_command, step, opening, first, asking, begun, client};
+ghost use Rattle.bus_plain.specs.Views.{terms, settings, as_status, as_phase, as_turn, as_said};
 
 use crate::reading::command_in;
+use crate::turns::{Said, Status, Turn, ahead, only};
 use bus_address::Guid;
 use bus_opening::{AuthMechanism, ClientConfig, Command};
 use react_core::outside::Bytes;
 use std::alloc::{AllocError, Global};
-
-/// How far a conversation has come.
-#[derive(Clone, Copy)]
-pub(crate) enum Status {
-    More,
-    Done(Guid, bool),
-    Refused,
-}
 
 /// Which command a client waits for.
 #[derive(Clone, Copy)]
@@ -26,20 +19,6 @@ pub(crate) enum Phase {
     First,
     Asking(Guid),
     Begun(Guid),
-}
-
-/// Pieces to be sent, and the next step or the end.
-#[derive(Drop)]
-pub(crate) enum Turn {
-    Goes(Vec<Bytes>, Phase),
-    Ends(Vec<Bytes>, Status),
-}
-
-/// The pieces to be sent, and how far the conversation has come.
-#[derive(Drop)]
-pub(crate) struct Said {
-    pub(crate) pieces: Vec<Bytes>,
-    pub(crate) status: Status,
 }
 
 // The mechanism that is taken over a wire that is not one of TCP.
@@ -63,15 +42,6 @@ fn first_line(alloc: Global, mechanism: AuthMechanism, user: u32) -> Result<Vec<
     let command = Command::Auth(Some(mechanism), Some(Bytes::from_vec(shown)));
     let line = format!(in alloc; "\0{command}\r\n")?;
     Ok(line.into_bytes())
-}
-
-// One piece.
-fn only(alloc: Global, piece: Vec<u8>) -> Result<Vec<Bytes>, AllocError>
-    ensures value { IfOk result (λ v. v.items ≡ piece.items ∷ []) }
-{
-    let mut pieces = Vec::new(alloc);
-    pieces.push(Bytes::from_vec(piece))?;
-    Ok(pieces)
 }
 
 // A text with the bytes that are sent behind BEGIN.
@@ -99,7 +69,7 @@ fn after_ok(
     config: &ClientConfig,
     passes: bool,
     guid: Guid,
-) -> Result<Turn, AllocError>
+) -> Result<Turn<Phase>, AllocError>
     ensures value { IfOk result (λ t. as_turn t ≡ after_ok (settings config.now passes) guid) }
 {
     if !passes {
@@ -123,7 +93,7 @@ fn at_first(
     config: &ClientConfig,
     passes: bool,
     command: &Command,
-) -> Result<Turn, AllocError>
+) -> Result<Turn<Phase>, AllocError>
     ensures value { IfOk result (λ t. as_turn t ≡ step_command (settings config.now passes) first command.now) }
 {
     match command {
@@ -138,7 +108,7 @@ fn at_asking(
     config: &ClientConfig,
     guid: Guid,
     command: &Command,
-) -> Result<Turn, AllocError>
+) -> Result<Turn<Phase>, AllocError>
     ensures value { (passes : Bool) → IfOk result (λ t. as_turn t ≡ step_command (settings config.now passes) (asking guid) command.now) }
 {
     let agreed = match command {
@@ -176,7 +146,7 @@ fn step_command(
     passes: bool,
     phase: Phase,
     command: &Command,
-) -> Result<Turn, AllocError>
+) -> Result<Turn<Phase>, AllocError>
     ensures value { IfOk result (λ t. as_turn t ≡ step_command (settings config.now passes) (as_phase phase) command.now) }
 {
     match phase {
@@ -193,7 +163,7 @@ fn step(
     passes: bool,
     phase: Phase,
     line: &[u8],
-) -> Result<Turn, AllocError>
+) -> Result<Turn<Phase>, AllocError>
     ensures value { IfOk result (λ t. as_turn t ≡ step (settings config.now passes) (as_phase phase) line.now) }
 {
     match command_in(alloc, line)? {
@@ -202,67 +172,41 @@ fn step(
     }
 }
 
-// More pieces before those of a turn.
-fn onto(mut before: Vec<Bytes>, turn: Turn) -> Result<Turn, AllocError>
-    ensures value { IfOk result (λ t. as_turn t ≡ onto before.items (as_turn turn)) }
-{
-    match turn {
-        Turn::Goes(mut pieces, phase) => {
-            before.append(&mut pieces)?;
-            Ok(Turn::Goes(before, phase))
-        }
-        Turn::Ends(mut pieces, status) => {
-            before.append(&mut pieces)?;
-            Ok(Turn::Ends(before, status))
-        }
-    }
-}
-
-// Where a conversation is after these lines, with all its pieces.
-fn turn_from(
+// What is said from here on, after these lines.
+fn said_from(
     alloc: Global,
     config: &ClientConfig,
     passes: bool,
     phase: Phase,
     lines: &[Bytes],
-) -> Result<Turn, AllocError>
-    ensures value { IfOk result (λ t. as_turn t ≡ turn_from (step (settings config.now passes)) (as_phase phase) lines.now) }
+) -> Result<Said, AllocError>
+    ensures value { IfOk result (λ s. as_said s ≡ said_of (turn_from (step (settings config.now passes)) (as_phase phase) lines.now)) }
 {
     let Some((line, others)) = lines.split_first() else {
-        return Ok(Turn::Goes(Vec::new(alloc), phase));
+        return Ok(Said {
+            pieces: Vec::new(alloc),
+            status: Status::More,
+        });
     };
     match step(alloc, config, passes, phase, line.as_slice())? {
         Turn::Goes(pieces, next) => {
-            let after = turn_from(alloc, config, passes, next, others)?;
-            onto(pieces, after)
+            let after = said_from(alloc, config, passes, next, others)?;
+            ahead(pieces, after)
         }
-        Turn::Ends(pieces, status) => Ok(Turn::Ends(pieces, status)),
+        Turn::Ends(pieces, status) => Ok(Said { pieces, status }),
     }
 }
 
-fn said_of(turn: Turn) -> Said
-    ensures value { as_said result ≡ said_of (as_turn turn) }
-{
-    match turn {
-        Turn::Goes(pieces, _) => Said {
-            pieces,
-            status: Status::More,
-        },
-        Turn::Ends(pieces, status) => Said { pieces, status },
-    }
-}
-
-/// What a client says after these lines.
-pub(crate) fn talk(
+/// What a client at a plain path says after these lines.
+pub(crate) fn client_says(
     alloc: Global,
     config: &ClientConfig,
     passes: bool,
     lines: &[Bytes],
 ) -> Result<Said, AllocError>
-    ensures value { IfOk result (λ s. as_said s ≡ said_by config.now passes lines.now) }
+    ensures value { IfOk result (λ s. as_said s ≡ client (terms config.now passes) lines.now) }
 {
     let before = opening(alloc, config)?;
-    let turn = turn_from(alloc, config, passes, Phase::First, lines)?;
-    let whole = onto(before, turn)?;
-    Ok(said_of(whole))
+    let after = said_from(alloc, config, passes, Phase::First, lines)?;
+    ahead(before, after)
 }

@@ -1,6 +1,6 @@
 use super::*;
 use bus_address::Guid;
-use bus_opening::{AuthMechanism, ClientConfig};
+use bus_opening::{AuthMechanism, ClientConfig, ServerConfig};
 use bus_peers::{Ending, Session};
 use react_core::outside::{Bytes, DialAnswer, Event, Question, RecvAnswer, SendAnswer};
 use std::alloc::Global;
@@ -12,13 +12,19 @@ const OK: &[u8] = b"OK 1234deadbeef1234deadbeef12345678\r\n";
 
 const BEGIN: &[u8] = b"BEGIN\r\n";
 
-/// An event of a client's part, in short.
+const REJECTED: &[u8] = b"REJECTED EXTERNAL\r\n";
+
+/// An event of a session's part, in short.
 #[derive(Clone, Copy)]
 enum Told<'a> {
     /// The socket is found.
     Opened,
     /// The socket is not found.
     Fault,
+    /// The connection of a peer is taken.
+    Accepted,
+    /// No connection is taken.
+    Unaccepted,
     /// This was offered, and so many bytes of it were taken.
     Took(&'a [u8], usize),
     /// This was offered, and the wire was not ready.
@@ -42,10 +48,20 @@ fn dial(alloc: Global, answer: DialAnswer) -> Result<Event, Fail> {
     })
 }
 
+fn accept(answer: DialAnswer) -> Event {
+    Event::Dial {
+        wire: 0,
+        question: Question::Accept,
+        answer,
+    }
+}
+
 fn event(alloc: Global, told: Told<'_>) -> Result<Event, Fail> {
     let (asked, answer) = match told {
         Told::Opened => return dial(alloc, DialAnswer::Opened { passes: false }),
         Told::Fault => return dial(alloc, DialAnswer::Failed),
+        Told::Accepted => return Ok(accept(DialAnswer::Opened { passes: false })),
+        Told::Unaccepted => return Ok(accept(DialAnswer::Failed)),
         Told::Took(piece, count) => {
             return Ok(Event::Send {
                 wire: 0,
@@ -79,26 +95,39 @@ fn config(flatpak: bool) -> ClientConfig {
     }
 }
 
-fn client(alloc: Global) -> Result<Session, Fail> {
+fn client(alloc: Global, flatpak: bool) -> Result<Session, Fail> {
     let address = String::from_str(alloc, "unix:path=/run/a")?;
-    Ok(Session::client(address, config(false), None))
+    Ok(Session::client(address, config(flatpak), None))
 }
 
-fn comes_to(alloc: Global, part: &[Told<'_>]) -> Result<Option<Outcome>, Fail> {
+fn guid() -> Result<Guid, Fail> {
+    let Ok(guid) = Guid::from_str("1234deadbeef1234deadbeef12345678") else {
+        return Err("guid".into());
+    };
+    Ok(guid)
+}
+
+fn server() -> Result<Session, Fail> {
+    let config = ServerConfig {
+        guid: guid()?,
+        mechanism: AuthMechanism::External,
+        permitted: Some(1000),
+    };
+    Ok(Session::server(config, None))
+}
+
+fn comes_to(alloc: Global, session: &Session, part: &[Told<'_>]) -> Result<Option<Outcome>, Fail> {
     let mut events = Vec::new(alloc);
     for told in part {
         events.push(event(alloc, *told)?)?;
     }
-    Ok(alone(alloc, &client(alloc)?, events.as_slice())?)
+    Ok(alone(alloc, session, events.as_slice())?)
 }
 
 #[test]
 fn a_part_comes_to_its_outcome(rt: HostRuntime) -> Result<(), Fail> {
-    let Ok(guid) = Guid::from_str("1234deadbeef1234deadbeef12345678") else {
-        return Err("guid".into());
-    };
     let open = Ending::Open {
-        guid,
+        guid: guid()?,
         cap_unix_fd: false,
     };
     let alloc = rt.alloc();
@@ -131,7 +160,7 @@ fn a_part_comes_to_its_outcome(rt: HostRuntime) -> Result<(), Fail> {
         (&[Told::Fault, Told::Idle], None),
     ];
     for (part, expected) in rows {
-        let outcome = comes_to(alloc, part)?;
+        let outcome = comes_to(alloc, &client(alloc, false)?, part)?;
         match (outcome, expected) {
             (None, None) => {}
             (Some(outcome), Some((ending, written))) => {
@@ -142,6 +171,58 @@ fn a_part_comes_to_its_outcome(rt: HostRuntime) -> Result<(), Fail> {
             _ => return Err("one of the two is none".into()),
         }
     }
+    Ok(())
+}
+
+const LET_IN: &[Told<'static>] = &[
+    Told::Accepted,
+    Told::Got(1024, b"\0AUTH EXTERNAL 31303030\r\nBEGIN\r\n"),
+    Told::Took(OK, 37),
+];
+
+const TURNED_AWAY: &[Told<'static>] = &[
+    Told::Accepted,
+    Told::Got(1024, b"\0AUTH EXTERNAL 31303031\r\n"),
+    Told::Took(REJECTED, 19),
+    Told::Idle,
+];
+
+const WITHOUT_NUL: &[Told<'static>] = &[
+    Told::Accepted,
+    Told::Got(1024, b"AUTH EXTERNAL 31303030\r\n"),
+];
+
+#[test]
+fn a_part_of_a_server_comes_to_its_outcome(rt: HostRuntime) -> Result<(), Fail> {
+    let open = Ending::Open {
+        guid: guid()?,
+        cap_unix_fd: false,
+    };
+    let alloc = rt.alloc();
+    let rows: [(&[Told<'_>], Ending, &[u8]); 4] = [
+        (LET_IN, open, OK),
+        (TURNED_AWAY, Ending::Waiting, REJECTED),
+        (WITHOUT_NUL, Ending::Handshake, b""),
+        (&[Told::Unaccepted], Ending::Connection, b""),
+    ];
+    for (part, ending, written) in rows {
+        let Some(outcome) = comes_to(alloc, &server()?, part)? else {
+            return Err("none".into());
+        };
+        assert!(rt; outcome.ending == ending);
+        assert_eq!(rt; outcome.written.as_slice(), written);
+        assert!(rt; outcome.leftover.as_slice().is_empty());
+    }
+    Ok(())
+}
+
+#[test]
+fn each_side_has_its_own_first_question(rt: HostRuntime) -> Result<(), Fail> {
+    let alloc = rt.alloc();
+    let client = comes_to(alloc, &client(alloc, false)?, &[Told::Accepted])?;
+    assert!(rt; client.is_none());
+    let server = comes_to(alloc, &server()?, &[Told::Opened])?;
+    assert!(rt; server.is_none());
     Ok(())
 }
 
@@ -167,7 +248,7 @@ fn a_line_may_be_as_long_as_this(rt: HostRuntime) -> Result<(), Fail> {
             part.push(Told::Got(1024, piece))?;
         }
         part.push(Told::Got(1024, last))?;
-        let Some(outcome) = comes_to(alloc, part.as_slice())? else {
+        let Some(outcome) = comes_to(alloc, &client(alloc, false)?, part.as_slice())? else {
             return Err("none".into());
         };
         assert!(rt; outcome.ending == ending);
@@ -181,19 +262,26 @@ fn a_line_may_be_as_long_as_this(rt: HostRuntime) -> Result<(), Fail> {
 #[test]
 fn a_question_is_asked(rt: HostRuntime) -> Result<(), Fail> {
     let alloc = rt.alloc();
-    let rows: [(bool, &[u8], usize, &[u8]); 4] = [
-        (false, b"", 0, AUTH),
-        (false, b"", 23, b"\r\n"),
-        (false, OK, 25, BEGIN),
-        (true, OK, 25, b"NEGOTIATE_UNIX_FD\r\n"),
+    let plain = client(alloc, false)?;
+    let flatpak = client(alloc, true)?;
+    let server = server()?;
+    let rows: [(&Session, bool, &[u8], usize, &[u8]); 6] = [
+        (&plain, false, b"", 0, AUTH),
+        (&plain, false, b"", 23, b"\r\n"),
+        (&plain, false, OK, 25, BEGIN),
+        (&flatpak, true, OK, 25, b"NEGOTIATE_UNIX_FD\r\n"),
+        (&server, false, AUTH, 0, OK),
+        (&server, false, AUTH, 35, b"\r\n"),
     ];
-    for (negotiates, got, taken, piece) in rows {
-        let Asked::Send(sent) = ask(alloc, &config(negotiates), negotiates, got, taken)? else {
+    for (session, passes, got, taken, piece) in rows {
+        let Asked::Send(sent) = ask(alloc, &session.party, passes, got, taken)? else {
             return Err("no send".into());
         };
         assert_eq!(rt; sent.as_slice(), piece);
     }
-    let asked = ask(alloc, &config(false), false, b"", 25)?;
-    assert!(rt; matches!(asked, Asked::Recv));
+    for (session, taken) in [(&plain, 25), (&server, 0)] {
+        let asked = ask(alloc, &session.party, false, b"", taken)?;
+        assert!(rt; matches!(asked, Asked::Recv));
+    }
     Ok(())
 }

@@ -1,5 +1,5 @@
 -- The forms of a line, by its words.
-use Rattle.std.specs.Prelude.{ℕ, ◌^◌, ◌-◌, Bool, true, false, not, List, [], ◌∷◌, length, take, Option, Some, Result, Ok, Err, ◌&&◌, nat_eq, is_none, is_some, ◌==◌, drop, if◌then◌else◌, codes}
+use Rattle.std.specs.Prelude.{ℕ, ◌^◌, ◌-◌, Bool, true, false, List, [], ◌∷◌, length, take, Result, Ok, Err, ◌&&◌, nat_eq, is_none, is_some, ◌==◌, drop, if◌then◌else◌, codes}
 use Rattle.std.specs.List.{join_with_byte, ends_with, starts_with}
 use Rattle.std.specs.Option.{ok_or}
 use Rattle.std.specs.Int.{w32, w128, from_be_bytes}
@@ -16,8 +16,6 @@ use Rattle.bus_address.specs.Guid.{guid}
 use Rattle.bus_address.specs.Plain.{plain_path}
 use Rattle.bus_opening.specs.Mechanisms.{mechanism}
 use Rattle.bus_opening.specs.declared.mechanism.AuthMechanism.{AuthMechanism}
-use Rattle.bus_opening.specs.declared.mechanism.AuthMechanism.TheVariants.{External}
-use Rattle.bus_opening.specs.declared.config.ClientConfig.{ClientConfig}
 use Rattle.bus_script.specs.Words.{◌>>=◌, ◌is◌, parts_of, number, flag, optional, or_form, bytes}
 use Rattle.bus_script.specs.declared.line.Reason.{Reason}
 use Rattle.bus_script.specs.declared.line.Reason.TheVariants.{Form}
@@ -28,6 +26,7 @@ use Rattle.bus_script.specs.declared.line.ReadySource.TheVariants as sources
 use Rattle.bus_script.specs.declared.line.Ready.{Ready}
 use Rattle.bus_script.specs.declared.line.Answer.{Answer}
 use Rattle.bus_script.specs.declared.line.Answer.TheVariants as answers
+use Rattle.bus_script.specs.declared.line.SessionLine.{SessionLine}
 use Rattle.bus_script.specs.declared.line.SessionLine.TheVariants as sessions
 use Rattle.bus_script.specs.declared.line.Line.{Line}
 use Rattle.bus_script.specs.declared.line.Line.TheVariants as lines
@@ -264,28 +263,20 @@ abbrev pub line_of : List (List ℕ) → Result Line Reason
 line_of [] = Err Form
 line_of (word ∷ rest) = line_with word rest
 
-abbrev pub is_external : Option AuthMechanism → Bool
-is_external (Some External) = true
-is_external _ = false
-
--- EXTERNAL, no hello bytes, no waiting for a flatpak portal, no deadline, and a plain path
-unfoldable pub is_built_client : List ℕ → ClientConfig → Option ℕ → Bool
-is_built_client address c deadline = is_external c.mechanism && is_none c.hello && not c.flatpak && is_none deadline && is_some (plain_path address)
+-- no deadline, and for a client a plain path
+unfoldable pub is_built_session : SessionLine → Bool
+is_built_session (sessions.Client address config deadline) = is_none deadline && is_some (plain_path address)
+is_built_session (sessions.Server config deadline) = is_none deadline
 
 abbrev pub is_built_dial : DialAnswer → Bool
-is_built_dial (dials.Opened passes) = not passes
+is_built_dial (dials.Opened _) = true
 is_built_dial dials.Failed = true
 is_built_dial _ = false
 
-abbrev pub is_built_recv : RecvAnswer → Bool
-is_built_recv (recvs.Got _) = true
-is_built_recv recvs.End = true
-is_built_recv recvs.NotReady = true
-is_built_recv _ = false
-
 abbrev pub is_built_answer : Answer → Bool
 is_built_answer (answers.Dial _ answer) = is_built_dial answer
-is_built_answer (answers.Recv _ answer) = is_built_recv answer
+is_built_answer (answers.Recv _ _) = true
+is_built_answer (answers.Send _ _) = true
 is_built_answer (answers.Add _) = true
 is_built_answer (answers.Modify _) = true
 is_built_answer (answers.Delete _) = true
@@ -295,6 +286,6 @@ is_built_answer _ = false
 -- the forms that are built
 unfoldable pub is_built : Line → Bool
 is_built (lines.Rounds _) = true
-is_built (lines.Session (sessions.Client address config deadline)) = is_built_client address config deadline
+is_built (lines.Session session) = is_built_session session
 is_built (lines.Answer answer) = is_built_answer answer
 is_built _ = false

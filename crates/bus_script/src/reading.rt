@@ -2,7 +2,7 @@
 
 ghost use Rattle.std.specs.Prelude.{◌≡◌, ◌≤◌, List, length, IfOk, Some, Ok};
 ghost use Rattle.std.specs.List.{list_all};
-ghost use Rattle.bus_script.specs.Forms.{is_built, is_built_client, is_built_answer, is_built_dial, is_built_recv};
+ghost use Rattle.bus_script.specs.Forms.{is_built, is_built_session, is_built_answer, is_built_dial};
 ghost use Rattle.bus_script.specs.Reading.{Steps, StepsAt, GivesAt, CutsLine};
 ghost use Rattle.bus_script.specs.Shape.{Say, lines_of};
 ghost use Rattle.bus_script.specs.Laws.{HasBuiltSessions, HasBuiltAnswers, NamesItsSessions, IsForward};
@@ -284,15 +284,18 @@ fn is_skipped(line: &str) -> bool
     line.is_empty() || line.starts_with("#")
 }
 
-#[tactic(auto, unfolding(crate::specs::Forms::is_built_client))]
-fn is_built_client(address: &Text, config: &ClientConfig, deadline: Option<u64>) -> bool
-    ensures { result ≡ is_built_client address.now config.now deadline }
+#[tactic(auto, unfolding(crate::specs::Forms::is_built_session))]
+fn is_built_session(session: &SessionLine) -> bool
+    ensures { result ≡ is_built_session session.now }
 {
-    matches!(config.mechanism, Some(AuthMechanism::External))
-        && config.hello.is_none()
-        && !config.flatpak
-        && deadline.is_none()
-        && plain_path(address.as_str()).is_some()
+    match session {
+        SessionLine::Client {
+            address,
+            deadline,
+            ..
+        } => deadline.is_none() && plain_path(address.as_str()).is_some(),
+        SessionLine::Server { deadline, .. } => deadline.is_none(),
+    }
 }
 
 #[tactic(auto, unfolding(crate::specs::Forms::is_built))]
@@ -301,13 +304,7 @@ fn is_built(line: &Line) -> bool
 {
     match line {
         Line::Rounds(_) => true,
-        Line::Session(
-            SessionLine::Client {
-                address,
-                config,
-                deadline,
-            },
-        ) => is_built_client(address, config, *deadline),
+        Line::Session(session) => is_built_session(session),
         Line::Answer(answer) => is_built_answer(answer),
         _ => false,
     }
@@ -318,8 +315,12 @@ fn is_built_answer(answer: &Answer) -> bool
 {
     match answer {
         Answer::Dial { answer, .. } => is_built_dial(answer),
-        Answer::Recv { answer, .. } => is_built_recv(answer),
-        Answer::Add(_) | Answer::Modify(_) | Answer::Delete(_) | Answer::Wait(_) => true,
+        Answer::Recv { .. }
+        | Answer::Send { .. }
+        | Answer::Add(_)
+        | Answer::Modify(_)
+        | Answer::Delete(_)
+        | Answer::Wait(_) => true,
         _ => false,
     }
 }
@@ -327,20 +328,7 @@ fn is_built_answer(answer: &Answer) -> bool
 fn is_built_dial(answer: &DialAnswer) -> bool
     ensures { result ≡ is_built_dial answer.now }
 {
-    match answer {
-        DialAnswer::Opened { passes } => !*passes,
-        DialAnswer::Failed => true,
-        _ => false,
-    }
-}
-
-fn is_built_recv(answer: &RecvAnswer) -> bool
-    ensures { result ≡ is_built_recv answer.now }
-{
-    matches!(
-        answer,
-        RecvAnswer::Got(_) | RecvAnswer::End | RecvAnswer::NotReady
-    )
+    matches!(answer, DialAnswer::Opened { .. } | DialAnswer::Failed)
 }
 
 /// The first line and what follows its line feed, where there is one.

@@ -490,6 +490,17 @@ pub trait Dialer: Tells {
         ensures poller { Self.poller_faults self.new ≡ Self.poller_faults self.old }
         ensures wires { Self.wire_faults self.new ≡ Self.wire_faults self.old }
         ensures doors { Self.doors self.new ≡ Self.doors self.old };
+
+    /// Takes the connection that a peer opened.
+    fn accept(&mut self, wire: u32) -> Result<Opened, Fault>
+        ensures told { Self.events self.new ≡ told (Self.events self.old) (dial_told wire question.Accept result) }
+        ensures cause { Counted result (Self.dial_faults self.old wire) (Self.dial_faults self.new wire) }
+        ensures others { SameBut wire (Self.dial_faults self.old) (Self.dial_faults self.new) }
+        ensures origin { Self.origin self.new ≡ Self.origin self.old }
+        ensures moment { Self.moment self.new ≡ Self.moment self.old }
+        ensures poller { Self.poller_faults self.new ≡ Self.poller_faults self.old }
+        ensures wires { Self.wire_faults self.new ≡ Self.wire_faults self.old }
+        ensures doors { Self.doors self.new ≡ Self.doors self.old };
 }
 
 /// All of the outside.

@@ -68,7 +68,7 @@ fn words_and_scripts_are_refused_with_their_line_and_reason(rt: HostRuntime) -> 
         ("rounds 1\nclient", "refused 2 form\n"),
         ("rounds 1\nrecv 0 again", "refused 2 session\n"),
         (
-            "rounds 1\nclient ANONYMOUS 1000 - n - unix:path=/run/a\n",
+            "rounds 1\nclient EXTERNAL 1000 - n 9 unix:path=/run/a\n",
             "refused 2 not-built\n",
         ),
     ];
@@ -193,6 +193,56 @@ dial 0 open n
 modify fault
 ";
 
+/// A server whose client gives its name at the second try.
+const SERVED: &str = "rounds 5
+server 1234deadbeef1234deadbeef12345678 EXTERNAL 1000 -
+dial 0 open n
+recv 0 bytes 00415554482045585445524e414c0d0a444154410d0a424547494e0d0a
+";
+
+const SERVED_OPEN: &str =
+    "session 0 open:1234deadbeef1234deadbeef12345678:n 444154410d0a4f4b2031323334646561646265656631323334646561646265656631323334353637380d0a . -
+dial 0 accept = open n
+add 0 0 ok
+recv 0 1024 bytes 00415554482045585445524e414c0d0a444154410d0a424547494e0d0a
+send 0 444154410d0a took 6
+send 0 4f4b2031323334646561646265656631323334646561646265656631323334353637380d0a took 37
+delete 0 0 ok
+";
+
+/// A server over a wire that passes descriptors, which its client asks for.
+const PASSING: &str = "rounds 5
+server 1234deadbeef1234deadbeef12345678 EXTERNAL 1000 -
+dial 0 open y
+recv 0 bytes 00415554482045585445524e414c2033313330333033300d0a4e45474f54494154455f554e49585f46440d0a424547494e0d0a
+";
+
+const PASSING_OPEN: &str =
+    "session 0 open:1234deadbeef1234deadbeef12345678:y 4f4b2031323334646561646265656631323334646561646265656631323334353637380d0a41475245455f554e49585f46440d0a . -
+dial 0 accept = open y
+add 0 0 ok
+recv 0 1024 bytes 00415554482045585445524e414c2033313330333033300d0a4e45474f54494154455f554e49585f46440d0a424547494e0d0a
+send 0 4f4b2031323334646561646265656631323334646561646265656631323334353637380d0a took 37
+send 0 41475245455f554e49585f46440d0a took 15
+delete 0 0 ok
+";
+
+/// A wire that takes three bytes of the first piece, and then none.
+const CUT_SEND: &str = "rounds 0
+client EXTERNAL 1000 - n - unix:path=/run/a
+dial 0 open n
+send 0 took 3
+send 0 took 0
+";
+
+const CUT_IO: &str = "session 0 io 004155 . -
+dial 0 unix 2f72756e2f61 = open n
+add 0 0 ok
+send 0 00415554482045585445524e414c2033313330333033300d0a took 3
+send 0 54482045585445524e414c2033313330333033300d0a fault
+delete 0 0 ok
+";
+
 #[test]
 fn played_scripts_print_their_endings_and_events(rt: HostRuntime) -> Result<(), Fail> {
     let rows = [
@@ -202,6 +252,9 @@ fn played_scripts_print_their_endings_and_events(rt: HostRuntime) -> Result<(), 
         (REPORTED, ARMED_AGAIN, 1),
         (TWO_ASLEEP, EACH_REPORTED, 1),
         (REFUSED_ARMING, "", 6),
+        (SERVED, SERVED_OPEN, 0),
+        (PASSING, PASSING_OPEN, 0),
+        (CUT_SEND, CUT_IO, 1),
     ];
     for (script, text, status) in rows {
         let (sink, answer) = outcome(rt.alloc(), &["play"], script.as_bytes(), &[], 5000)?;

@@ -9,7 +9,7 @@ returns-in-Ok-opened-clause-opened g c = λ zero.
       c.in-Ok-opened.endeds.items,
       c.events-events.result.now,
       comes c.args.played.scene.script _ c.args.played.sessions.items c.args.played.rounds _ _ c.in-Ok-opened.endeds.items _ _ c.events-events.result.now
-          c.open_all-opened.ensures.script c.requires.new c.events-events.ensures.told c.events-events.ensures.follows c.in-Ok-opened.ensures.cause c.in-Ok-opened.ensures.opened,
+          c.open_all-opened.ensures.origin c.requires.new c.events-events.ensures.told c.events-events.ensures.follows c.in-Ok-opened.ensures.cause c.in-Ok-opened.ensures.opened,
       all.0,
       all.1,
     )
@@ -20,7 +20,7 @@ returns-in-Ok-opened-clause-other g c = λ one.
       c.in-Ok-opened.endeds.items,
       c.events-events.result.now,
       comes c.args.played.scene.script _ c.args.played.sessions.items c.args.played.rounds _ _ c.in-Ok-opened.endeds.items _ _ c.events-events.result.now
-          c.open_all-opened.ensures.script c.requires.new c.events-events.ensures.told c.events-events.ensures.follows c.in-Ok-opened.ensures.cause c.in-Ok-opened.ensures.opened,
+          c.open_all-opened.ensures.origin c.requires.new c.events-events.ensures.told c.events-events.ensures.follows c.in-Ok-opened.ensures.cause c.in-Ok-opened.ensures.opened,
       other.0,
       other.1,
     )
@@ -31,7 +31,7 @@ returns-in-Ok-opened-clause-failed g c = λ four.
       c.in-Ok-opened.endeds.items,
       c.events-events.result.now,
       comes c.args.played.scene.script _ c.args.played.sessions.items c.args.played.rounds _ _ c.in-Ok-opened.endeds.items _ _ c.events-events.result.now
-          c.open_all-opened.ensures.script c.requires.new c.events-events.ensures.told c.events-events.ensures.follows c.in-Ok-opened.ensures.cause c.in-Ok-opened.ensures.opened,
+          c.open_all-opened.ensures.origin c.requires.new c.events-events.ensures.told c.events-events.ensures.follows c.in-Ok-opened.ensures.cause c.in-Ok-opened.ensures.opened,
       failed.0,
       failed.1,
     )
@@ -41,7 +41,7 @@ returns-clause-status g c = rw c.status_of.ensures (one-of c.in-Err.refusal)
 
 pub returns-clause-poller : goal.returns-clause-poller
 returns-clause-poller g c = λ six. (
-  fails c.args.played.scene.script _ _ _ c.events-events.result.now c.faultless.ensures c.open_all-opened.ensures.script c.requires.new c.events-events.ensures.told c.events-events.ensures.follows
+  fails c.args.played.scene.script _ _ _ c.events-events.result.now c.faultless.ensures c.open_all-opened.ensures.origin c.requires.new c.events-events.ensures.told c.events-events.ensures.follows
       (rw (poller-alone c.in-Err.refusal (sym c.status_of.ensures ∙ six)) at c.in-Err.ensures.cause),
   keeps_same _,
 )

@@ -1,4 +1,5 @@
-use Rattle.std.proofs.Common.{ap}
+use Rattle.std.proofs.Common.{refl, ap}
+use Rattle.bus_peers.specs.Dialled.{conversation}
 use Rattle.bus_peers.proofs.Turns.{on-err}
 use Rattle.bus_peers.proofs.Firsts.{if-ok, refused-by, insert-keeps, inserted-holds, inserted-rests, inserted-keeps, inserted-tags, inserted-registers}
 use Rattle.bus_peers.proofs.visiting.visit_opened.Goals as goal
@@ -21,7 +22,7 @@ returns-clause-visited g c =
     if-ok c.visit.result
     (λ slot stays.
     inserted-registers c.args.reactor.now.core c.insert_io.new.self.core c.args.wire c.in_ok-key.key c.in_ok-key.ensures.free (ap (λ r. r.core) c.in_ok-key.ensures.inserted) c.args.session.now c.args.passes
-    _ _ _ c.visit.new.reactor.core c.in_ok-client.client slot c.in_ok-client.ensures.stands c.in_ok-client.ensures.written c.in_ok-key.ensures.told stays)
+    _ _ _ c.visit.new.reactor.core c.in_ok-client.client slot (conversation c.args.session.now.party c.args.passes, refl, c.in_ok-client.ensures.stands) c.in_ok-client.ensures.written c.in_ok-key.ensures.told stays)
     c.visit.ensures.visited
 
 pub returns-clause-tags : goal.returns-clause-tags

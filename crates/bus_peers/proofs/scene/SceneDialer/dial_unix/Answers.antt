@@ -8,5 +8,5 @@ use Rattle.bus_peers.proofs.scene.SceneDialer.dial_unix.Goals as goal
 
 pub returns-clause-wires : goal.returns-clause-wires
 returns-clause-wires c =
-    let now : c.dial_path.new.player.told.items ≡ c.args.self.now.told ++ event.Dial c.args.wire (question.Unix c.args.path.now) (dialled c.dial_path.result) ∷ [] = grind (arith, common_steps) in
-    wires_same c.args.self.now.told c.dial_path.new.player.told.items (event.Dial c.args.wire (question.Unix c.args.path.now) (dialled c.dial_path.result)) now (λ w. refl)
+    let now : c.dial.new.player.told.items ≡ c.args.self.now.told ++ event.Dial c.args.wire (question.Unix c.args.path.now) (dialled c.dial.result) ∷ [] = grind (arith, common_steps) in
+    wires_same c.args.self.now.told c.dial.new.player.told.items (event.Dial c.args.wire (question.Unix c.args.path.now) (dialled c.dial.result)) now (λ w. refl)
