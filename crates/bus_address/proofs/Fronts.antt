@@ -1,5 +1,5 @@
 -- What a text says once its front is cut off.
-use Rattle.std.proofs.Common.{◌≡◌, ℕ, Bool, true, false, List, length, drop, Option, Some, None, sym, subst}
+use Rattle.std.proofs.Common.{◌≡◌, ℕ, true, false, List, length, drop, Option, Some, None, sym, subst}
 use Rattle.std.specs.Str.{IsCharBoundary}
 use Rattle.std.specs.Option.{MatchOption}
 use Rattle.std.specs.List.{starts_with}

@@ -1,6 +1,8 @@
 pub mod Choices
 pub mod GuidLemmas
+pub mod GuidOrder
 pub mod EscapeLemmas
+pub mod EscapeTables
 pub mod ListLemmas
 pub mod TextLemmas
 pub mod EntryLemmas
@@ -10,3 +12,4 @@ pub mod AddressLemmas
 pub mod RoundTrip
 pub mod ReadBackLemmas
 pub mod Fronts
+pub mod EqualLemmas

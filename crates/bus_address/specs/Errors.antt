@@ -35,6 +35,22 @@ kind_name kinds.MissingNonceFile = codes "MissingNonceFile"
 kind_name kinds.BadEscape = codes "BadEscape"
 kind_name kinds.HostText = codes "HostText"
 
+-- the number of a kind
+abbrev pub kind_number : AddressKind → ℕ
+kind_number kinds.Form = 1
+kind_number kinds.BadGuid = 2
+kind_number kinds.UnknownTransport = 3
+kind_number kinds.Keys = 4
+kind_number kinds.MissingPath = 5
+kind_number kinds.Bind = 6
+kind_number kinds.MissingHost = 7
+kind_number kinds.MissingPort = 8
+kind_number kinds.BadPort = 9
+kind_number kinds.BadFamily = 10
+kind_number kinds.MissingNonceFile = 11
+kind_number kinds.BadEscape = 12
+kind_number kinds.HostText = 13
+
 -- a value goes on, and a refusal stays
 infixl 10 ◌>>=◌
 abbrev pub ◌>>=◌ : {X Y : Type 0} → Result X AddressKind → (X → Result Y AddressKind) → Result Y AddressKind

@@ -1,5 +1,5 @@
 -- Escapes in the values of an address: optionally escaped bytes (D-Bus specification, Server Addresses).
-use Rattle.std.specs.Prelude.{ℕ, ◌+◌, ◌*◌, ◌/◌, ◌%◌, Bool, ◌==◌, ◌&&◌, ◌||◌, if◌then◌else◌, List, [], ◌∷◌, Option, Some, None}
+use Rattle.std.specs.Prelude.{ℕ, ◌+◌, ◌*◌, ◌/◌, ◌%◌, Bool, ◌==◌, ◌&&◌, ◌||◌, if◌then◌else◌, List, [], ◌∷◌, ◌++◌, Option, Some, None}
 use Rattle.std.specs.Option.{option_map}
 use Rattle.std.specs.List.{flat_map}
 use Rattle.std.specs.Char.{is_ascii_alphanumeric, is_ascii_hexdigit, digit_value, digit_char}
@@ -15,6 +15,10 @@ escape c = if is_plain c then c ∷ [] else 37 ∷ digit_char (c / 16) ∷ digit
 -- bytes as they are written
 abbrev pub escaped : List ℕ → List ℕ
 escaped bytes = flat_map escape bytes
+
+-- bytes with others in front
+abbrev pub with_front : List ℕ → Option (List ℕ) → Option (List ℕ)
+with_front front bytes = option_map (λ cs. front ++ cs) bytes
 
 -- bytes with one more in front
 abbrev pub with_first : ℕ → Option (List ℕ) → Option (List ℕ)

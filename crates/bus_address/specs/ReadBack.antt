@@ -1,5 +1,6 @@
 -- Addresses that are read back from their printed text.
-use Rattle.std.specs.Prelude.{◌≡◌, ℕ, ◌<◌, IsTrue, List, [], ◌∷◌, length, Option, Some, None, ⊤, slice_index}
+use Rattle.std.specs.Prelude.{◌≡◌, ℕ, ◌<◌, nat_lt, Bool, true, ◌&&◌, is_none, IsTrue, List, [], ◌∷◌, length, Option, Some, None, ⊤, slice_index}
+use Rattle.std.specs.List.{list_all}
 use Rattle.std.specs.Str.{IsUtf8}
 use Rattle.bus_address.specs.declared.unix.UnixSocket.{UnixSocket}
 use Rattle.bus_address.specs.declared.unix.UnixSocket.TheVariants as sockets
@@ -54,3 +55,34 @@ IsReadableTransport (transports.Ibus ibus) = ⊤
 pub record IsReadable (address : AddressParts) : Type 0 where
   pub transport : IsReadableTransport address.transport
   pub guid : IsOptionalGuid address.guid
+
+-- whether there are bytes
+abbrev pub has_bytes : List ℕ → Bool
+has_bytes bytes = nat_lt 0 (length bytes)
+
+-- whether there are bytes in what is there
+abbrev pub has_bytes_if_some : Option (List ℕ) → Bool
+has_bytes_if_some None = true
+has_bytes_if_some (Some bytes) = has_bytes bytes
+
+abbrev pub is_readable_socket : UnixSocket → Bool
+is_readable_socket (sockets.File path) = has_bytes path
+is_readable_socket (sockets.Abstract name) = has_bytes name
+is_readable_socket (sockets.Dir path) = has_bytes path
+is_readable_socket (sockets.TmpDir path) = has_bytes path
+
+abbrev pub is_readable_tcp : TcpParts → Bool
+is_readable_tcp tcp = has_bytes tcp.host && is_none tcp.bind && has_bytes_if_some tcp.nonce_file
+
+abbrev pub is_readable_program : ProgramParts → Bool
+is_readable_program program = has_bytes program.path && has_bytes_if_some program.arg0 && list_all has_bytes program.args
+
+abbrev pub is_readable_transport : Transport → Bool
+is_readable_transport (transports.Unix socket) = is_readable_socket socket
+is_readable_transport (transports.Tcp tcp) = is_readable_tcp tcp
+is_readable_transport (transports.Unixexec program) = is_readable_program program
+is_readable_transport (transports.Ibus ibus) = true
+
+-- whether an address that a program holds is read back: it has no bind and no empty value
+abbrev pub is_readable : AddressParts → Bool
+is_readable address = is_readable_transport address.transport

@@ -1,6 +1,6 @@
 //! A bus address.
 
-ghost use Rattle.std.specs.Prelude.{◌≡◌, Ok, Some, None, IfOk};
+ghost use Rattle.std.specs.Prelude.{◌≡◌, Ok, Some, None, IfOk, IsTrue};
 ghost use Rattle.std.specs.Option.{option_copied};
 ghost use Rattle.bus_address.specs.Address.{guid_front};
 ghost use Rattle.bus_address.specs.Defaults.{file_address, session_socket};
@@ -36,7 +36,7 @@ impl Model for Address {
 
 impl Address {
     ghost use Rattle.bus_address.specs.Address.{AddressParts, says};
-    ghost use Rattle.bus_address.specs.ReadBack.{IsReadable};
+    ghost use Rattle.bus_address.specs.ReadBack.{is_readable, IsReadable};
     ghost use Rattle.bus_address.specs.Errors.{Gives};
     ghost use Rattle.bus_address.specs.Reading.{address, address_with};
     ghost use Rattle.bus_address.specs.Lookups.{found};
@@ -137,6 +137,17 @@ impl Address {
             Some(text) => Address::from_str(alloc, text),
             None => Ok(file(Vec::from_slice(alloc, b"/var/run/dbus/system_bus_socket")?)),
         }
+    }
+
+    /// Whether the printed text is read back as the address: there is no `bind`, and no value is empty.
+    pub fn is_readable(&self) -> bool
+        ensures value { result ≡ is_readable self.now }
+        ensures readable { IsTrue result → IsReadable self.now }
+    {
+        if let Some(guid) = &self.guid {
+            guid.holds_digits();
+        }
+        self.transport.is_readable()
     }
 
     /// How the bus is reached.

@@ -1,14 +1,14 @@
 //! Why an address is refused.
 
 ghost use Rattle.std.specs.Prelude.{◌≡◌, Some};
-ghost use Rattle.bus_address.specs.declared.error.AddressError.TheVariants.{OutOfMemory as out_of_memory};
+ghost use Rattle.bus_address.specs.declared.error.AddressError.TheVariants.{Kind as refused, OutOfMemory as out_of_memory};
 
 use std::alloc::{AllocError, AllocFailed};
+use std::error::Error;
 use std::fmt;
-use thiserror::Error;
 
 /// There was no memory for the answer.
-#[derive(Clone, Copy, Debug, PartialEq, Eq, Error)]
+#[derive(Clone, Copy, Debug, PartialEq, Eq, thiserror::Error)]
 #[error("out of memory")]
 pub struct OutOfMemory;
 
@@ -44,6 +44,19 @@ pub enum AddressKind {
     HostText,
 }
 
+impl AddressKind {
+    ghost use Rattle.bus_address.specs.Errors.{kind_number};
+
+    /// The number of the kind, from 1 for `Form` to 13 for `HostText`.
+    pub fn number(&self) -> u8
+        ensures { result ≡ kind_number self.now }
+    {
+        *self as u8
+    }
+}
+
+impl Error for AddressKind {}
+
 impl fmt::Display for AddressKind {
     ghost use Rattle.std.specs.Prelude.{Some};
     ghost use Rattle.bus_address.specs.Errors.{kind_name};
@@ -71,7 +84,7 @@ impl fmt::Display for AddressKind {
 }
 
 /// Why the text of an address is refused.
-#[derive(Clone, Copy, Debug, PartialEq, Eq, Error)]
+#[derive(Clone, Copy, Debug, PartialEq, Eq, thiserror::Error)]
 pub enum AddressError {
     /// The text is wrong.
     #[error("{0}")]
@@ -94,6 +107,22 @@ impl<T: Drop> From<AllocFailed<T>> for AddressError {
 
     fn from(_e: AllocFailed<T>) -> AddressError {
         AddressError::OutOfMemory
+    }
+}
+
+impl From<OutOfMemory> for AddressError {
+    ghost from_gives = { λ _ e. e ≡ out_of_memory };
+
+    fn from(_e: OutOfMemory) -> AddressError {
+        AddressError::OutOfMemory
+    }
+}
+
+impl From<AddressKind> for AddressError {
+    ghost from_gives = { λ kind e. e ≡ refused kind };
+
+    fn from(kind: AddressKind) -> AddressError {
+        AddressError::Kind(kind)
     }
 }
 

@@ -8,10 +8,11 @@ ghost use Rattle.bus_address.specs.Guid.{guid, is_guid};
 
 use std::fmt;
 use std::marker::Model;
+use std::str::FromStr;
 use thiserror::Error;
 
 /// The text is not 32 hexadecimal digits.
-#[derive(Debug, Drop, Error, PartialEq, Eq)]
+#[derive(Clone, Copy, Debug, Error, PartialEq, Eq)]
 #[error("not 32 hexadecimal digits")]
 pub struct InvalidGuid;
 
@@ -60,12 +61,29 @@ impl Guid {
     {
         str::from_utf8(&self.digits).unwrap()
     }
+
+    /// What each GUID is made of, for the proofs of callers: 32 digits in lower case.
+    pub(crate) fn holds_digits(&self)
+        ensures { IsTrue (is_guid self.now) }
+    {
+        let _digits = &self.digits;
+    }
 }
 
 fn is_hexadecimal(bytes: &[u8]) -> bool
     ensures { result ≡ list_all is_ascii_hexdigit bytes.now }
 {
     bytes.iter().all(|b| b.is_ascii_hexdigit())
+}
+
+impl FromStr for Guid {
+    type Err = InvalidGuid;
+
+    ghost from_str_gives = { λ text result. result_ok result ≡ guid text };
+
+    fn from_str(text: &str) -> Result<Guid, InvalidGuid> {
+        Guid::from_str(text)
+    }
 }
 
 impl fmt::Display for Guid {

@@ -7,6 +7,7 @@ mod error;
 mod escapes;
 mod guid;
 mod ibus;
+pub mod laws;
 mod octets;
 mod options;
 mod plain;

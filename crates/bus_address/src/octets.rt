@@ -1,10 +1,13 @@
 //! Bytes and texts that an address holds.
 
-ghost use Rattle.std.specs.Prelude.{◌≡◌, nat_eq, map};
+ghost use Rattle.std.specs.Prelude.{◌≡◌, nat_eq, map, IsTrue};
+ghost use Rattle.std.specs.List.{list_all};
+ghost use Rattle.std.specs.Option.{option_copied};
 ghost use Rattle.std.specs.String.{string_bytes};
 ghost use Rattle.std.specs.Cmp.Lexicographic.{pointwise};
 ghost use Rattle.std.specs.Cmp.Rules.{comparing};
 ghost use Rattle.std.proofs.Common.{rules};
+ghost use Rattle.bus_address.specs.ReadBack.{has_bytes, has_bytes_if_some, IsValue, IsOptionalValue, AreValues};
 
 use std::marker::Model;
 
@@ -38,7 +41,7 @@ impl Octets {
     }
 
     /// The bytes, as a vector.
-    pub(crate) fn into_vec(self) -> Vec<u8>
+    pub fn into_vec(self) -> Vec<u8>
         ensures { result.items ≡ self }
     {
         self.bytes
@@ -142,4 +145,36 @@ impl PartialEq for OctetList {
 
 impl Eq for OctetList {
     ghost laws = { Prim.search (comparing, rules) };
+}
+
+/// Whether there are bytes, so that a key can have them as its value.
+pub(crate) fn has_bytes(bytes: &[u8]) -> bool
+    ensures value { result ≡ has_bytes bytes.now }
+    ensures readable { IsTrue result → IsValue bytes.now }
+{
+    !bytes.is_empty()
+}
+
+/// Whether there are bytes in what is there.
+pub(crate) fn has_bytes_if_some(bytes: Option<&[u8]>) -> bool
+    ensures value { result ≡ has_bytes_if_some (option_copied bytes.entry) }
+    ensures readable { IsTrue result → IsOptionalValue (option_copied bytes.entry) }
+{
+    match bytes {
+        Some(bytes) => has_bytes(bytes),
+        None => true,
+    }
+}
+
+/// Whether each string has bytes.
+pub(crate) fn all_have_bytes(all: &[Vec<u8>]) -> bool
+    ensures value { result ≡ list_all has_bytes (map (λ v. v.items) all.now) }
+    ensures readable { IsTrue result → AreValues (map (λ v. v.items) all.now) }
+{
+    for bytes in all {
+        if !has_bytes(bytes.as_slice()) {
+            return false;
+        }
+    }
+    true
 }

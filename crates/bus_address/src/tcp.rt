@@ -1,16 +1,17 @@
 //! TCP addresses, with a nonce or without (D-Bus specification, TCP Sockets and
 //! Nonce-authenticated TCP Sockets).
 
-ghost use Rattle.std.specs.Prelude.{◌≡◌, Some, None, Ok, Err, IfOk, MatchResult, string_bytes};
+ghost use Rattle.std.specs.Prelude.{◌≡◌, Some, None, Ok, Err, IfOk, IsTrue, MatchResult, string_bytes};
 ghost use Rattle.std.specs.Option.{option_copied, option_map};
 
 use crate::error::{AddressKind, OutOfMemory};
 use crate::escapes::Escaped;
-use crate::octets::{Octets, Text};
+use crate::octets::{Octets, Text, has_bytes, has_bytes_if_some};
 use crate::printing::Behind;
 use std::alloc::Global;
 use std::fmt;
 use std::marker::Model;
+use std::str::FromStr;
 
 /// The kind of IP address that a host's name is looked up as.
 #[derive(Clone, Copy, Debug, PartialEq, Eq)]
@@ -43,6 +44,18 @@ impl TcpTransportFamily {
             TcpTransportFamily::Ipv4 => "ipv4",
             TcpTransportFamily::Ipv6 => "ipv6",
         }
+    }
+}
+
+impl FromStr for TcpTransportFamily {
+    ghost use Rattle.bus_address.specs.Values.{family};
+
+    type Err = AddressKind;
+
+    ghost from_str_gives = { λ text result. result ≡ family text };
+
+    fn from_str(text: &str) -> Result<TcpTransportFamily, AddressKind> {
+        TcpTransportFamily::from_str(text)
     }
 }
 
@@ -79,6 +92,7 @@ impl Model for Tcp {
 
 impl Tcp {
     ghost use Rattle.bus_address.specs.Parts.{TcpParts};
+    ghost use Rattle.bus_address.specs.ReadBack.{is_readable_tcp, IsReadableTcp};
 
     /// A host and a port alone.
     pub fn new(alloc: Global, host: &str, port: u16) -> Result<Tcp, OutOfMemory>
@@ -174,6 +188,21 @@ impl Tcp {
             Some(file) => Some(file.as_slice()),
             None => None,
         }
+    }
+
+    pub(crate) fn is_readable(&self) -> bool
+        ensures value { result ≡ is_readable_tcp self.now }
+        ensures readable { IsTrue result → IsReadableTcp self.now }
+    {
+        if !has_bytes(self.host().as_bytes()) {
+            return false;
+        }
+        if self.bind().is_some() {
+            return false;
+        }
+        // The proof takes from this that a port has 16 bits.
+        let _port = self.port();
+        has_bytes_if_some(self.nonce_file())
     }
 
     /// Takes the file for the nonce out.

@@ -1,5 +1,7 @@
 use super::*;
 use std::alloc::Global;
+use std::fmt::Display;
+use std::str::FromStr;
 use std::test::Fail;
 
 const GUID: &str = "00112233445566778899aabbccddeeff";
@@ -21,6 +23,64 @@ fn a_guid_is_read_in_either_case_and_printed_in_lower_case(rt: HostRuntime) -> R
     Ok(())
 }
 
+/// What `parse` reads, through the trait.
+fn parsed<T: FromStr>(text: &str) -> Option<T>
+where
+    T::Err: Drop,
+{
+    <T as FromStr>::from_str(text).ok()
+}
+
+#[test]
+fn guids_and_families_are_parsed_as_texts_are(rt: HostRuntime) -> Result<(), Fail> {
+    assert_eq!(rt; parsed::<Guid>(GUID), Guid::from_str(GUID).ok());
+    assert_eq!(rt; parsed::<Guid>("00"), None);
+    assert_eq!(rt;
+        parsed::<TcpTransportFamily>("ipv6"),
+        Some(TcpTransportFamily::Ipv6)
+    );
+    assert_eq!(rt; parsed::<TcpTransportFamily>("IPv6"), None);
+    Ok(())
+}
+
+/// The text of an error.
+fn printed<E: Display + Drop>(alloc: Global, error: E) -> Result<String, Fail> {
+    Ok(format!(in alloc; "{error}")?)
+}
+
+#[test]
+fn errors_are_printed_and_numbered(rt: HostRuntime) -> Result<(), Fail> {
+    let kinds = [
+        (AddressKind::Form, 1, "Form"),
+        (AddressKind::BadGuid, 2, "BadGuid"),
+        (AddressKind::UnknownTransport, 3, "UnknownTransport"),
+        (AddressKind::Keys, 4, "Keys"),
+        (AddressKind::MissingPath, 5, "MissingPath"),
+        (AddressKind::Bind, 6, "Bind"),
+        (AddressKind::MissingHost, 7, "MissingHost"),
+        (AddressKind::MissingPort, 8, "MissingPort"),
+        (AddressKind::BadPort, 9, "BadPort"),
+        (AddressKind::BadFamily, 10, "BadFamily"),
+        (AddressKind::MissingNonceFile, 11, "MissingNonceFile"),
+        (AddressKind::BadEscape, 12, "BadEscape"),
+        (AddressKind::HostText, 13, "HostText"),
+    ];
+    for (kind, number, name) in kinds {
+        assert_eq!(rt; kind.number(), number, "{name}");
+        assert_eq!(rt; printed(rt.alloc(), kind)?.as_str(), name);
+        let error = AddressError::from(kind);
+        assert_eq!(rt; printed(rt.alloc(), error)?.as_str(), name);
+    }
+    let error = AddressError::from(OutOfMemory);
+    assert_eq!(rt; printed(rt.alloc(), error)?.as_str(), "out of memory");
+    assert_eq!(rt; printed(rt.alloc(), OutOfMemory)?.as_str(), "out of memory");
+    assert_eq!(rt;
+        printed(rt.alloc(), InvalidGuid)?.as_str(),
+        "not 32 hexadecimal digits"
+    );
+    Ok(())
+}
+
 #[test]
 fn bytes_are_escaped_and_read_back(rt: HostRuntime) -> Result<(), Fail> {
     let written = [
@@ -29,6 +89,10 @@ fn bytes_are_escaped_and_read_back(rt: HostRuntime) -> Result<(), Fail> {
         (b"\0\x7f\xff", "%00%7f%ff"),
         (b"%,;=", "%25%2c%3b%3d"),
         (b"", ""),
+        (
+            b"a\xc3\xa9\xc3\xa9\xc3\xa9\xc3\xa9\xc3\xa9\xc3\xa9\xc3\xa9\xc3\xa9 b",
+            "a%c3%a9%c3%a9%c3%a9%c3%a9%c3%a9%c3%a9%c3%a9%c3%a9%20b",
+        ),
     ];
     for (bytes, want) in written {
         let text = encode_percents(rt.alloc(), bytes)?;
@@ -170,6 +234,8 @@ fn an_address_is_made_of_its_parts(rt: HostRuntime) -> Result<(), Fail> {
     let path = Octets::from_vec(Vec::from_slice(alloc, b"/a")?);
     let unix = Unix::new(UnixSocket::File(path));
     assert!(rt; matches!(unix.path(), UnixSocket::File(_)));
+    let octets = Octets::from_vec(Vec::from_slice(alloc, b"/a")?);
+    assert_eq!(rt; octets.into_vec().as_slice(), b"/a".as_slice());
     let guid = Guid::from_str(GUID)?;
     let address = Address::new(Transport::Unix(unix)).set_guid(guid);
     assert_eq!(rt; address.guid(), Some(guid));
@@ -225,6 +291,27 @@ fn a_program_is_asked_for_its_parts(rt: HostRuntime) -> Result<(), Fail> {
     assert_eq!(rt; unixexec.args().len(), 1);
     let printed = unixexec.to_string(alloc)?;
     assert_eq!(rt; printed.as_str(), "unixexec:path=/x,argv1=a%20b");
+    Ok(())
+}
+
+#[test]
+fn an_address_without_bind_and_empty_values_comes_back(rt: HostRuntime) -> Result<(), Fail> {
+    let alloc = rt.alloc();
+    for text in [
+        "unix:path=/a%20b",
+        "nonce-tcp:noncefile=/n,host=h,port=80,family=ipv6",
+        "unixexec:path=/x,argv0=y,argv1=a,argv2=b,guid=00112233445566778899aabbccddeeff",
+        "ibus:",
+    ] {
+        let address = Address::from_str(alloc, text)?;
+        assert!(rt; address.is_readable(), "{text}");
+        assert!(rt; laws::read_back(alloc, &address)? == address, "{text}");
+    }
+    let bound = Address::new(Transport::Tcp(whole_tcp(alloc)?));
+    assert!(rt; !bound.is_readable());
+    let empty = Octets::from_vec(Vec::new(alloc));
+    let nowhere = Address::new(Transport::Unix(Unix::new(UnixSocket::File(empty))));
+    assert!(rt; !nowhere.is_readable());
     Ok(())
 }
 

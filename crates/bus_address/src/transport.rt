@@ -19,6 +19,23 @@ pub enum Transport {
     Ibus(Ibus),
 }
 
+impl Transport {
+    ghost use Rattle.std.specs.Prelude.{◌≡◌, IsTrue};
+    ghost use Rattle.bus_address.specs.ReadBack.{is_readable_transport, IsReadableTransport};
+
+    pub(crate) fn is_readable(&self) -> bool
+        ensures value { result ≡ is_readable_transport self.now }
+        ensures readable { IsTrue result → IsReadableTransport self.now }
+    {
+        match self {
+            Transport::Unix(unix) => unix.path().is_readable(),
+            Transport::Tcp(tcp) => tcp.is_readable(),
+            Transport::Unixexec(unixexec) => unixexec.is_readable(),
+            Transport::Ibus(_) => true,
+        }
+    }
+}
+
 impl fmt::Display for Transport {
     ghost use Rattle.std.specs.Prelude.{Some};
     ghost use Rattle.bus_address.specs.Address.{transport_text};

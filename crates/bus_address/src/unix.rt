@@ -1,9 +1,9 @@
 //! Unix domain sockets (D-Bus specification, Unix Domain Sockets).
 
-ghost use Rattle.std.specs.Prelude.{◌≡◌, ◌++◌, codes, Some};
+ghost use Rattle.std.specs.Prelude.{◌≡◌, ◌++◌, codes, IsTrue, Some};
 
 use crate::escapes::Escaped;
-use crate::octets::Octets;
+use crate::octets::{Octets, has_bytes};
 use std::fmt;
 use std::marker::Model;
 
@@ -18,6 +18,22 @@ pub enum UnixSocket {
     Dir(Octets),
     /// A folder in which a server makes a socket file or an abstract name. It can't be dialled.
     TmpDir(Octets),
+}
+
+impl UnixSocket {
+    ghost use Rattle.bus_address.specs.ReadBack.{is_readable_socket, IsReadableSocket};
+
+    pub(crate) fn is_readable(&self) -> bool
+        ensures value { result ≡ is_readable_socket self.now }
+        ensures readable { IsTrue result → IsReadableSocket self.now }
+    {
+        match self {
+            UnixSocket::File(path) => has_bytes(path.as_slice()),
+            UnixSocket::Abstract(name) => has_bytes(name.as_slice()),
+            UnixSocket::Dir(path) => has_bytes(path.as_slice()),
+            UnixSocket::TmpDir(path) => has_bytes(path.as_slice()),
+        }
+    }
 }
 
 impl fmt::Display for UnixSocket {

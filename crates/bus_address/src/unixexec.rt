@@ -1,10 +1,10 @@
 //! Programs that are started to talk to them (D-Bus specification, Executed Subprocesses on Unix).
 
-ghost use Rattle.std.specs.Prelude.{◌≡◌, map};
+ghost use Rattle.std.specs.Prelude.{◌≡◌, map, IsTrue};
 ghost use Rattle.std.specs.Option.{option_copied, option_map};
 
 use crate::escapes::Escaped;
-use crate::octets::{OctetList, Octets};
+use crate::octets::{OctetList, Octets, all_have_bytes, has_bytes, has_bytes_if_some};
 use crate::printing::Behind;
 use std::fmt;
 use std::marker::Model;
@@ -29,6 +29,7 @@ impl Model for Unixexec {
 
 impl Unixexec {
     ghost use Rattle.bus_address.specs.Parts.{ProgramParts};
+    ghost use Rattle.bus_address.specs.ReadBack.{is_readable_program, IsReadableProgram};
 
     /// A program, the name that it is told for itself, and its other arguments.
     pub fn new(path: Vec<u8>, arg0: Option<Vec<u8>>, args: Vec<Vec<u8>>) -> Unixexec
@@ -73,6 +74,19 @@ impl Unixexec {
         ensures { map (λ v. v.items) result.now ≡ self.now.args }
     {
         self.args.as_slice()
+    }
+
+    pub(crate) fn is_readable(&self) -> bool
+        ensures value { result ≡ is_readable_program self.now }
+        ensures readable { IsTrue result → IsReadableProgram self.now }
+    {
+        if !has_bytes(self.path()) {
+            return false;
+        }
+        if !has_bytes_if_some(self.arg0()) {
+            return false;
+        }
+        all_have_bytes(self.args())
     }
 }
 

@@ -1,6 +1,6 @@
 -- What calls answer that make a bus name, or take one apart.
-use Rattle.std.specs.Prelude.{◌≡◌, ℕ, false, List, IsTrue, Result, Ok, Err, if◌then◌else◌, codes}
-use Rattle.bus_names.specs.Grammar.{is_bus_name, is_unique_name}
+use Rattle.std.specs.Prelude.{◌≡◌, ℕ, List, Result, Ok, Err, codes}
+use Rattle.bus_names.specs.ValidNames.{IsBusName, IsUniqueName, IsWellKnownName}
 use Rattle.bus_names.specs.Refusals.{no_bus}
 use Rattle.bus_names.specs.declared.error.Error.{Error}
 use Rattle.bus_names.specs.declared.error.Error.TheVariants.{InvalidName, InvalidNameConversion, OutOfMemory}
@@ -24,30 +24,29 @@ abbrev pub owned_of : BusName → OwnedBusName
 owned_of (Unique text) = owned.Unique text
 owned_of (WellKnown text) = owned.WellKnown text
 
--- what a text is read as: unique where it can be
-abbrev pub bus_name_of : List ℕ → BusName
-bus_name_of text = if is_unique_name text then Unique text else WellKnown text
-
--- the bus name where the text is one, else the refusal
+-- the bus name where the text is one, unique where it can be, else the refusal
 abbrev pub ReadsBus : List ℕ → Result BusName Error → Type 0
-ReadsBus text (Ok name) = (name ≡ bus_name_of text) × IsTrue (is_bus_name text)
-ReadsBus text (Err (InvalidName why)) = (why.now ≡ no_bus text) × (is_bus_name text ≡ false)
+ReadsBus text (Ok (Unique name)) = (name ≡ text) × IsUniqueName text
+ReadsBus text (Ok (WellKnown name)) = (name ≡ text) × IsWellKnownName text × ¬ IsUniqueName text
+ReadsBus text (Err (InvalidName why)) = (why.now ≡ no_bus text) × ¬ IsBusName text
 ReadsBus text (Err (InvalidNameConversion from to)) = ⊥
 ReadsBus text (Err OutOfMemory) = ⊥
 
 -- the same of a text that is given away
 abbrev pub TakesBus : List ℕ → Result OwnedBusName Error → Type 0
-TakesBus text (Ok name) = (name ≡ owned_of (bus_name_of text)) × IsTrue (is_bus_name text)
-TakesBus text (Err (InvalidName why)) = (why.now ≡ no_bus text) × (is_bus_name text ≡ false)
+TakesBus text (Ok (owned.Unique name)) = (name ≡ text) × IsUniqueName text
+TakesBus text (Ok (owned.WellKnown name)) = (name ≡ text) × IsWellKnownName text × ¬ IsUniqueName text
+TakesBus text (Err (InvalidName why)) = (why.now ≡ no_bus text) × ¬ IsBusName text
 TakesBus text (Err (InvalidNameConversion from to)) = ⊥
 TakesBus text (Err OutOfMemory) = ⊥
 
--- the same of a text that is copied
+-- the same of a text that is copied, which only a bus name is
 abbrev pub CopiesBus : List ℕ → Result OwnedBusName Error → Type 0
-CopiesBus text (Ok name) = (name ≡ owned_of (bus_name_of text)) × IsTrue (is_bus_name text)
-CopiesBus text (Err (InvalidName why)) = (why.now ≡ no_bus text) × (is_bus_name text ≡ false)
+CopiesBus text (Ok (owned.Unique name)) = (name ≡ text) × IsUniqueName text
+CopiesBus text (Ok (owned.WellKnown name)) = (name ≡ text) × IsWellKnownName text × ¬ IsUniqueName text
+CopiesBus text (Err (InvalidName why)) = (why.now ≡ no_bus text) × ¬ IsBusName text
 CopiesBus text (Err (InvalidNameConversion from to)) = ⊥
-CopiesBus text (Err OutOfMemory) = IsTrue (is_bus_name text)
+CopiesBus text (Err OutOfMemory) = IsBusName text
 
 -- a name of the kind `from` was asked for as one of the kind `to`
 abbrev pub IsConversion : List ℕ → List ℕ → Error → Type 0

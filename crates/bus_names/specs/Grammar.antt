@@ -9,14 +9,14 @@ use Rattle.bus_names.specs.declared.grammar.Form.TheVariants.{Plain, Dashed, Num
 -- the byte may be the first of an element: 95 is _ and 45 is -
 abbrev pub starts : Form → ℕ → Bool
 starts Plain c = is_ascii_alphabetic c || c == 95
-starts Dashed c = is_ascii_alphabetic c || c == 95 || c == 45
-starts Numbered c = is_ascii_alphanumeric c || c == 95 || c == 45
+starts Dashed c = (is_ascii_alphabetic c || c == 95) || c == 45
+starts Numbered c = (is_ascii_alphanumeric c || c == 95) || c == 45
 
 -- the byte may be a later one of an element
 abbrev pub goes_on : Form → ℕ → Bool
 goes_on Plain c = is_ascii_alphanumeric c || c == 95
-goes_on Dashed c = is_ascii_alphanumeric c || c == 95 || c == 45
-goes_on Numbered c = is_ascii_alphanumeric c || c == 95 || c == 45
+goes_on Dashed c = (is_ascii_alphanumeric c || c == 95) || c == 45
+goes_on Numbered c = (is_ascii_alphanumeric c || c == 95) || c == 45
 
 -- one byte or more
 abbrev pub is_element : Form → List ℕ → Bool

@@ -1,5 +1,6 @@
 pub mod Answers
 pub mod BusNames
+pub mod Classes
 pub mod Decides
 pub mod Errors
 pub mod Grammar

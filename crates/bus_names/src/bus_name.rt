@@ -7,7 +7,6 @@ ghost use Rattle.bus_names.specs.Grammar.{is_bus_name};
 ghost use Rattle.bus_names.specs.ValidNames.{IsBusName};
 
 use crate::error::Error;
-use crate::kind::{Kind, Unique, WellKnown};
 use crate::name::{Name, UniqueName, WellKnownName};
 use crate::owned_name::{OwnedName, OwnedUniqueName, OwnedWellKnownName};
 use std::alloc::Global;
@@ -56,9 +55,9 @@ impl<'a> TryFrom<&'a str> for BusName<'a> {
     ghost try_from_gives = { λ text r. ReadsBus text.now r };
 
     fn try_from(text: &'a str) -> Result<Self, Error> {
-        if Unique::is_valid(text) {
+        if UniqueName::is_valid(text) {
             Ok(BusName::Unique(Name::from_str_unchecked(text)))
-        } else if WellKnown::is_valid(text) {
+        } else if WellKnownName::is_valid(text) {
             Ok(BusName::WellKnown(Name::from_str_unchecked(text)))
         } else {
             Err(Error::InvalidName(INVALID_BUS_NAME))
@@ -207,13 +206,34 @@ impl<'a> BusName<'a> {
 }
 
 impl fmt::Display for BusName<'_> {
+    ghost use Rattle.std.specs.Fmt.{styled_text};
     ghost use Rattle.std.specs.Prelude.{Some};
     ghost use Rattle.bus_names.specs.BusNames.{text_of};
 
     ghost output = { λ n. Some (text_of n) };
 
+    ghost styled_output = { λ n spec. Some (styled_text spec (text_of n)) };
+
     fn fmt<W: fmt::Write>(&self, f: &mut fmt::Formatter<W>) -> fmt::Result {
         f.pad(self.as_str())
+    }
+}
+
+impl TryFrom<String> for OwnedBusName {
+    ghost use Rattle.bus_names.specs.BusNames.{TakesBus};
+
+    type Error = Error;
+
+    ghost try_from_gives = { λ text r. TakesBus (string_bytes text) r };
+
+    fn try_from(text: String) -> Result<Self, Error> {
+        if UniqueName::is_valid(text.as_str()) {
+            Ok(OwnedBusName::Unique(OwnedName::from_string_unchecked(text)))
+        } else if WellKnownName::is_valid(text.as_str()) {
+            Ok(OwnedBusName::WellKnown(OwnedName::from_string_unchecked(text)))
+        } else {
+            Err(Error::InvalidName(INVALID_BUS_NAME))
+        }
     }
 }
 
@@ -230,7 +250,8 @@ impl OwnedBusName {
         BusName::try_from(text)?.into_owned(alloc)
     }
 
-    /// The bus name with this text, which is dropped where it is refused.
+    /// The bus name with this text, as `try_from`: the text itself, no copy. It is dropped where it
+    /// is refused.
     ///
     /// # Errors
     ///
@@ -238,13 +259,7 @@ impl OwnedBusName {
     pub fn try_from_string(text: String) -> Result<OwnedBusName, Error>
         ensures { TakesBus (string_bytes text) result }
     {
-        if Unique::is_valid(text.as_str()) {
-            Ok(OwnedBusName::Unique(OwnedName::from_string_unchecked(text)))
-        } else if WellKnown::is_valid(text.as_str()) {
-            Ok(OwnedBusName::WellKnown(OwnedName::from_string_unchecked(text)))
-        } else {
-            Err(Error::InvalidName(INVALID_BUS_NAME))
-        }
+        OwnedBusName::try_from(text)
     }
 
     /// This unique name.
@@ -366,10 +381,13 @@ impl OwnedBusName {
 }
 
 impl fmt::Display for OwnedBusName {
+    ghost use Rattle.std.specs.Fmt.{styled_text};
     ghost use Rattle.std.specs.Prelude.{Some};
     ghost use Rattle.bus_names.specs.BusNames.{lent, text_of};
 
     ghost output = { λ n. Some (text_of (lent n)) };
+
+    ghost styled_output = { λ n spec. Some (styled_text spec (text_of (lent n))) };
 
     fn fmt<W: fmt::Write>(&self, f: &mut fmt::Formatter<W>) -> fmt::Result {
         f.pad(self.as_str())

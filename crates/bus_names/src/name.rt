@@ -4,6 +4,7 @@ ghost use Rattle.std.specs.Prelude.{◌≡◌, IsTrue, ◌↔◌, Some, nat_eq, 
 ghost use Rattle.std.specs.Cmp.Lexicographic.{pointwise, slice_cmp, nat_list_eq_equiv, nat_list_cmp_total, texts_ties, texts_po};
 ghost use Rattle.std.specs.Cmp.{partial_equiv_from_equiv};
 ghost use Rattle.std.specs.Cmp.Rules.{hashing};
+ghost use Rattle.std.specs.Fmt.{styled_text};
 ghost use Rattle.std.specs.Hash as fed;
 ghost use Rattle.std.specs.Ordering.{nat_cmp};
 ghost use Rattle.std.proofs.Common.{rules};
@@ -60,7 +61,7 @@ impl<'a, K: Kind> Model for Name<'a, K> {
 impl<'a, K: Kind> TryFrom<&'a str> for Name<'a, K> {
     type Error = Error;
 
-    ghost try_from_gives = { λ text r. Reads K.grammar K.refusal text.now r };
+    ghost try_from_gives = { λ text r. Reads K.IsName K.refusal text.now r };
 
     fn try_from(text: &'a str) -> Result<Self, Error> {
         if K::is_valid(text) {
@@ -97,7 +98,7 @@ impl<'a, K: Kind> Name<'a, K> {
     ///
     /// `InvalidName` where the text is not in the grammar.
     pub fn from_static_str(text: &'static str) -> Result<Name<'static, K>, Error>
-        ensures { Reads K.grammar K.refusal text.now result }
+        ensures { Reads K.IsName K.refusal text.now result }
     {
         Name::try_from(text)
     }
@@ -166,6 +167,8 @@ impl<'a, K: Kind> Name<'a, K> {
 
 impl<K: Kind> fmt::Display for Name<'_, K> {
     ghost output = { λ n. Some n };
+
+    ghost styled_output = { λ n spec. Some (styled_text spec n) };
 
     fn fmt<W: fmt::Write>(&self, f: &mut fmt::Formatter<W>) -> fmt::Result {
         f.pad(self.text)

@@ -4,6 +4,7 @@ ghost use Rattle.std.specs.Prelude.{◌≡◌, IsTrue, ◌↔◌, Some, nat_eq, 
 ghost use Rattle.std.specs.Cmp.Lexicographic.{pointwise, slice_cmp, nat_list_eq_equiv, nat_list_cmp_total, texts_ties, texts_po};
 ghost use Rattle.std.specs.Cmp.{partial_equiv_from_equiv};
 ghost use Rattle.std.specs.Cmp.Rules.{hashing};
+ghost use Rattle.std.specs.Fmt.{styled_text};
 ghost use Rattle.std.specs.Hash as fed;
 ghost use Rattle.std.specs.Ordering.{nat_cmp};
 ghost use Rattle.std.proofs.Common.{rules};
@@ -57,6 +58,20 @@ impl<K: Kind> Model for OwnedName<K> {
     ghost invariant = { λ n. IsTrue (K.grammar (string_bytes n.text)) };
 }
 
+impl<K: Kind> TryFrom<String> for OwnedName<K> {
+    type Error = Error;
+
+    ghost try_from_gives = { λ text r. Reads K.IsName K.refusal (string_bytes text) r };
+
+    fn try_from(text: String) -> Result<Self, Error> {
+        if K::is_valid(text.as_str()) {
+            Ok(OwnedName::from_string_unchecked(text))
+        } else {
+            Err(Error::InvalidName(K::refusal(text.as_str())))
+        }
+    }
+}
+
 impl<K: Kind> OwnedName<K> {
     /// A name with a copy of this text.
     ///
@@ -64,24 +79,21 @@ impl<K: Kind> OwnedName<K> {
     ///
     /// `InvalidName` where the text is not in the grammar, else `OutOfMemory` alone.
     pub fn try_from_text(alloc: Global, text: &str) -> Result<OwnedName<K>, Error>
-        ensures { ReadsOwned K.grammar K.refusal text.now result }
+        ensures { ReadsOwned K.IsName K.refusal text.now result }
     {
         Name::try_from(text)?.into_owned(alloc)
     }
 
-    /// The name with this text, which is dropped where it is refused.
+    /// The name with this text, as `try_from`: the text itself, no copy. It is dropped where it is
+    /// refused.
     ///
     /// # Errors
     ///
     /// `InvalidName` where the text is not in the grammar.
     pub fn try_from_string(text: String) -> Result<OwnedName<K>, Error>
-        ensures { Reads K.grammar K.refusal (string_bytes text) result }
+        ensures { Reads K.IsName K.refusal (string_bytes text) result }
     {
-        if K::is_valid(text.as_str()) {
-            Ok(OwnedName::from_string_unchecked(text))
-        } else {
-            Err(Error::InvalidName(K::refusal(text.as_str())))
-        }
+        OwnedName::try_from(text)
     }
 
     /// The name with this text, which `is_valid` of the lent kind has to accept: it is not tested
@@ -145,6 +157,8 @@ impl<K: Kind> OwnedName<K> {
 
 impl<K: Kind> fmt::Display for OwnedName<K> {
     ghost output = { λ n. Some n };
+
+    ghost styled_output = { λ n spec. Some (styled_text spec n) };
 
     fn fmt<W: fmt::Write>(&self, f: &mut fmt::Formatter<W>) -> fmt::Result {
         f.pad(self.text.as_str())

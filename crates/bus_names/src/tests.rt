@@ -70,13 +70,19 @@ const TEXTS: [(&str, usize, &str); 57] = [
 
 /// The letter where each reading takes the text as a name of the kind, `-` where each refuses it.
 fn answer<K: Kind>(alloc: Global, text: &str, letter: char) -> Result<char, AllocError> {
-    let string = String::from_str(alloc, text)?;
     let is_lent = Name::<K>::try_from(text).is_ok();
     let is_copied = OwnedName::<K>::try_from_text(alloc, text).is_ok();
-    let is_taken = OwnedName::<K>::try_from_string(string).is_ok();
-    match (Name::<K>::is_valid(text), is_lent, is_copied, is_taken) {
-        (true, true, true, true) => Ok(letter),
-        (false, false, false, false) => Ok('-'),
+    let is_taken = OwnedName::<K>::try_from_string(String::from_str(alloc, text)?).is_ok();
+    let is_converted = OwnedName::<K>::try_from(String::from_str(alloc, text)?).is_ok();
+    match (
+        Name::<K>::is_valid(text),
+        is_lent,
+        is_copied,
+        is_taken,
+        is_converted,
+    ) {
+        (true, true, true, true, true) => Ok(letter),
+        (false, false, false, false, false) => Ok('-'),
         _ => Ok('?'),
     }
 }

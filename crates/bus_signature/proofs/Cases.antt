@@ -5,11 +5,12 @@ use Rattle.bus_signature.specs.declared.signature.Signature.{Signature}
 use Rattle.bus_signature.specs.declared.signature.Signature.TheOpen.{Signature-F}
 use Rattle.bus_signature.specs.declared.signature.Signature.TheViews.{out-Signature, roll-Signature, outs-Array, outs-Dict, outs-Structure}
 use Rattle.bus_signature.specs.declared.signature.Signature.TheFolds.{fold-roll-Signature, ind-Signature, map-Signature}
-use Rattle.bus_signature.specs.declared.signature.Signature.TheVariants.{Unit, U8, Bool as Boolean, I16, U16, I32, U32, I64, U64, F64, Str, Signature as Sig, ObjectPath, Variant, Fd, Array, Dict, Structure, rolls-Array, rolls-Dict, rolls-Structure}
+use Rattle.bus_signature.specs.declared.signature.Signature.TheVariants.{Unit, U8, Bool as Boolean, I16, U16, I32, U32, I64, U64, F64, Str, Signature as Sig, ObjectPath, Variant, Fd, Array, Dict}
+use Rattle.bus_signature.specs.declared.signature.Signature.TheVariants.{Structure, rolls-Array, rolls-Dict, rolls-Structure}
 use Rattle.bus_signature.specs.Texts.{text, text_step, texts, opened, text_no_parens}
 use Rattle.bus_signature.specs.Grammar.{complete, complete_step}
 use Rattle.bus_signature.specs.Taking.{letter}
-use Rattle.bus_signature.proofs.Named.{named, named_U8, named_Bool, named_I16, named_U16, named_I32, named_U32, named_I64, named_U64, named_F64, named_Str, named_Signature, named_ObjectPath, named_Variant, named_Fd}
+use Rattle.bus_signature.proofs.Named.{named, first}
 
 -- `complete`, one layer at a time
 complete_layer : (x : Signature-F Signature) (s : Signature) → roll-Signature x ≡ s → (a p : ℕ) → complete s a p ≡ complete_step (map-Signature Signature (ℕ → ℕ → Bool) complete x) a p
@@ -79,61 +80,75 @@ pub record Simple (c : ℕ) (s : Signature) : Type 0 where
   pub named : named s ≡ Some s
   pub ascii : c < 128
 
+-- by the letter's layer
+by_layer : (c : ℕ) (x : Signature-F Signature) (s : Signature) → roll-Signature x ≡ s → text_step (map-Signature Signature (List ℕ) text x) ≡ c ∷ []
+    → ((a p : ℕ) → complete_step (map-Signature Signature (ℕ → ℕ → Bool) complete x) a p ≡ true) → text_no_parens s ≡ text s → letter c ≡ Some s
+    → opens c ≡ true → named s ≡ Some s → c < 128 → Simple c s
+by_layer c x s is printed all no_parens found opens name ascii = record {
+  text = ap text (sym is) ∙ fold-roll-Signature (List ℕ) text_step x ∙ printed;
+  complete = λ a p. complete_layer x s is a p ∙ all a p;
+  no_parens = no_parens;
+  letter = found;
+  opens = opens;
+  named = name;
+  ascii = ascii;
+}
+
 pub simple_U8 : Simple 121 U8
-unfolding text_no_parens roll-Signature out-Signature denote.Hole.Carrier.roll denote.Hole.Carrier.out
-simple_U8 = record { text = fold-roll-Signature (List ℕ) text_step Signature-F.U8; complete = λ a p. complete_layer Signature-F.U8 U8 refl a p; letter = refl; opens = refl; named = named_U8; no_parens = refl; ascii = omega arith }
+unfolding text_no_parens named first roll-Signature out-Signature denote.Hole.Carrier.roll denote.Hole.Carrier.out
+simple_U8 = by_layer 121 Signature-F.U8 U8 refl refl (λ a p. refl) refl refl refl refl (omega arith)
 
 pub simple_Bool : Simple 98 Boolean
-unfolding text_no_parens roll-Signature out-Signature denote.Hole.Carrier.roll denote.Hole.Carrier.out
-simple_Bool = record { text = fold-roll-Signature (List ℕ) text_step Signature-F.Bool; complete = λ a p. complete_layer Signature-F.Bool Boolean refl a p; letter = refl; opens = refl; named = named_Bool; no_parens = refl; ascii = omega arith }
+unfolding text_no_parens named first roll-Signature out-Signature denote.Hole.Carrier.roll denote.Hole.Carrier.out
+simple_Bool = by_layer 98 Signature-F.Bool Boolean refl refl (λ a p. refl) refl refl refl refl (omega arith)
 
 pub simple_I16 : Simple 110 I16
-unfolding text_no_parens roll-Signature out-Signature denote.Hole.Carrier.roll denote.Hole.Carrier.out
-simple_I16 = record { text = fold-roll-Signature (List ℕ) text_step Signature-F.I16; complete = λ a p. complete_layer Signature-F.I16 I16 refl a p; letter = refl; opens = refl; named = named_I16; no_parens = refl; ascii = omega arith }
+unfolding text_no_parens named first roll-Signature out-Signature denote.Hole.Carrier.roll denote.Hole.Carrier.out
+simple_I16 = by_layer 110 Signature-F.I16 I16 refl refl (λ a p. refl) refl refl refl refl (omega arith)
 
 pub simple_U16 : Simple 113 U16
-unfolding text_no_parens roll-Signature out-Signature denote.Hole.Carrier.roll denote.Hole.Carrier.out
-simple_U16 = record { text = fold-roll-Signature (List ℕ) text_step Signature-F.U16; complete = λ a p. complete_layer Signature-F.U16 U16 refl a p; letter = refl; opens = refl; named = named_U16; no_parens = refl; ascii = omega arith }
+unfolding text_no_parens named first roll-Signature out-Signature denote.Hole.Carrier.roll denote.Hole.Carrier.out
+simple_U16 = by_layer 113 Signature-F.U16 U16 refl refl (λ a p. refl) refl refl refl refl (omega arith)
 
 pub simple_I32 : Simple 105 I32
-unfolding text_no_parens roll-Signature out-Signature denote.Hole.Carrier.roll denote.Hole.Carrier.out
-simple_I32 = record { text = fold-roll-Signature (List ℕ) text_step Signature-F.I32; complete = λ a p. complete_layer Signature-F.I32 I32 refl a p; letter = refl; opens = refl; named = named_I32; no_parens = refl; ascii = omega arith }
+unfolding text_no_parens named first roll-Signature out-Signature denote.Hole.Carrier.roll denote.Hole.Carrier.out
+simple_I32 = by_layer 105 Signature-F.I32 I32 refl refl (λ a p. refl) refl refl refl refl (omega arith)
 
 pub simple_U32 : Simple 117 U32
-unfolding text_no_parens roll-Signature out-Signature denote.Hole.Carrier.roll denote.Hole.Carrier.out
-simple_U32 = record { text = fold-roll-Signature (List ℕ) text_step Signature-F.U32; complete = λ a p. complete_layer Signature-F.U32 U32 refl a p; letter = refl; opens = refl; named = named_U32; no_parens = refl; ascii = omega arith }
+unfolding text_no_parens named first roll-Signature out-Signature denote.Hole.Carrier.roll denote.Hole.Carrier.out
+simple_U32 = by_layer 117 Signature-F.U32 U32 refl refl (λ a p. refl) refl refl refl refl (omega arith)
 
 pub simple_I64 : Simple 120 I64
-unfolding text_no_parens roll-Signature out-Signature denote.Hole.Carrier.roll denote.Hole.Carrier.out
-simple_I64 = record { text = fold-roll-Signature (List ℕ) text_step Signature-F.I64; complete = λ a p. complete_layer Signature-F.I64 I64 refl a p; letter = refl; opens = refl; named = named_I64; no_parens = refl; ascii = omega arith }
+unfolding text_no_parens named first roll-Signature out-Signature denote.Hole.Carrier.roll denote.Hole.Carrier.out
+simple_I64 = by_layer 120 Signature-F.I64 I64 refl refl (λ a p. refl) refl refl refl refl (omega arith)
 
 pub simple_U64 : Simple 116 U64
-unfolding text_no_parens roll-Signature out-Signature denote.Hole.Carrier.roll denote.Hole.Carrier.out
-simple_U64 = record { text = fold-roll-Signature (List ℕ) text_step Signature-F.U64; complete = λ a p. complete_layer Signature-F.U64 U64 refl a p; letter = refl; opens = refl; named = named_U64; no_parens = refl; ascii = omega arith }
+unfolding text_no_parens named first roll-Signature out-Signature denote.Hole.Carrier.roll denote.Hole.Carrier.out
+simple_U64 = by_layer 116 Signature-F.U64 U64 refl refl (λ a p. refl) refl refl refl refl (omega arith)
 
 pub simple_F64 : Simple 100 F64
-unfolding text_no_parens roll-Signature out-Signature denote.Hole.Carrier.roll denote.Hole.Carrier.out
-simple_F64 = record { text = fold-roll-Signature (List ℕ) text_step Signature-F.F64; complete = λ a p. complete_layer Signature-F.F64 F64 refl a p; letter = refl; opens = refl; named = named_F64; no_parens = refl; ascii = omega arith }
+unfolding text_no_parens named first roll-Signature out-Signature denote.Hole.Carrier.roll denote.Hole.Carrier.out
+simple_F64 = by_layer 100 Signature-F.F64 F64 refl refl (λ a p. refl) refl refl refl refl (omega arith)
 
 pub simple_Str : Simple 115 Str
-unfolding text_no_parens roll-Signature out-Signature denote.Hole.Carrier.roll denote.Hole.Carrier.out
-simple_Str = record { text = fold-roll-Signature (List ℕ) text_step Signature-F.Str; complete = λ a p. complete_layer Signature-F.Str Str refl a p; letter = refl; opens = refl; named = named_Str; no_parens = refl; ascii = omega arith }
+unfolding text_no_parens named first roll-Signature out-Signature denote.Hole.Carrier.roll denote.Hole.Carrier.out
+simple_Str = by_layer 115 Signature-F.Str Str refl refl (λ a p. refl) refl refl refl refl (omega arith)
 
 pub simple_Signature : Simple 103 Sig
-unfolding text_no_parens roll-Signature out-Signature denote.Hole.Carrier.roll denote.Hole.Carrier.out
-simple_Signature = record { text = fold-roll-Signature (List ℕ) text_step Signature-F.Signature; complete = λ a p. complete_layer Signature-F.Signature Sig refl a p; letter = refl; opens = refl; named = named_Signature; no_parens = refl; ascii = omega arith }
+unfolding text_no_parens named first roll-Signature out-Signature denote.Hole.Carrier.roll denote.Hole.Carrier.out
+simple_Signature = by_layer 103 Signature-F.Signature Sig refl refl (λ a p. refl) refl refl refl refl (omega arith)
 
 pub simple_ObjectPath : Simple 111 ObjectPath
-unfolding text_no_parens roll-Signature out-Signature denote.Hole.Carrier.roll denote.Hole.Carrier.out
-simple_ObjectPath = record { text = fold-roll-Signature (List ℕ) text_step Signature-F.ObjectPath; complete = λ a p. complete_layer Signature-F.ObjectPath ObjectPath refl a p; letter = refl; opens = refl; named = named_ObjectPath; no_parens = refl; ascii = omega arith }
+unfolding text_no_parens named first roll-Signature out-Signature denote.Hole.Carrier.roll denote.Hole.Carrier.out
+simple_ObjectPath = by_layer 111 Signature-F.ObjectPath ObjectPath refl refl (λ a p. refl) refl refl refl refl (omega arith)
 
 pub simple_Variant : Simple 118 Variant
-unfolding text_no_parens roll-Signature out-Signature denote.Hole.Carrier.roll denote.Hole.Carrier.out
-simple_Variant = record { text = fold-roll-Signature (List ℕ) text_step Signature-F.Variant; complete = λ a p. complete_layer Signature-F.Variant Variant refl a p; letter = refl; opens = refl; named = named_Variant; no_parens = refl; ascii = omega arith }
+unfolding text_no_parens named first roll-Signature out-Signature denote.Hole.Carrier.roll denote.Hole.Carrier.out
+simple_Variant = by_layer 118 Signature-F.Variant Variant refl refl (λ a p. refl) refl refl refl refl (omega arith)
 
 pub simple_Fd : Simple 104 Fd
-unfolding text_no_parens roll-Signature out-Signature denote.Hole.Carrier.roll denote.Hole.Carrier.out
-simple_Fd = record { text = fold-roll-Signature (List ℕ) text_step Signature-F.Fd; complete = λ a p. complete_layer Signature-F.Fd Fd refl a p; letter = refl; opens = refl; named = named_Fd; no_parens = refl; ascii = omega arith }
+unfolding text_no_parens named first roll-Signature out-Signature denote.Hole.Carrier.roll denote.Hole.Carrier.out
+simple_Fd = by_layer 104 Signature-F.Fd Fd refl refl (λ a p. refl) refl refl refl refl (omega arith)
 
 module _ (P : Signature → Type 0) (unit : P Unit) (simple : (c : ℕ) (s : Signature) → Simple c s → P s) (array : (s : Signature) → P s → P (Array s))
     (dict : (k v : Signature) → P k → P v → P (Dict k v)) (structure : (es : List ((s : Signature) × P s)) → P (Structure (map (λ e. e.0) es))) where

@@ -5,8 +5,9 @@ use Rattle.bus_signature.specs.declared.signature.Signature.{Signature}
 use Rattle.bus_signature.specs.declared.signature.Signature.TheVariants.{Unit, Array, Dict, Structure}
 use Rattle.bus_signature.specs.Texts.{IsPlain}
 use Rattle.bus_signature.specs.Grammar.{complete, AreComplete}
-use Rattle.bus_signature.proofs.Cases.{Layer, unit, byte, array, dict, structure, layer_of, complete_array_0, complete_array, complete_dict_0, complete_dict, complete_structure_0, complete_structure_empty, complete_structure}
-use Rattle.bus_signature.proofs.Fronts.{are_complete, all_complete}
+use Rattle.bus_signature.proofs.Cases.{Layer, unit, byte, array, dict, structure, layer_of, complete_array_0, complete_array, complete_dict_0, complete_dict, complete_structure_0}
+use Rattle.bus_signature.proofs.Cases.{complete_structure_empty, complete_structure}
+use Rattle.bus_signature.proofs.Fronts.{are_complete, all_complete, complete_one_more}
 
 pub no_depth_array : (s : Signature) (a p : ℕ) → a ≡ 0 → complete (Array s) a p ≡ false
 no_depth_array s a p is = ap (λ (n : ℕ). complete (Array s) n p) is ∙ complete_array_0 s p
@@ -53,10 +54,6 @@ letter_complete s a p some plain = by (layer_of s) where
   by (array t is) = absurd (plain.no_array t is)
   by (dict k v is) = absurd (plain.no_dict k v is)
   by (structure fs is) = absurd (plain.no_structure fs is)
-
-pub complete_one_more : (xs : List Signature) (a p : ℕ) (x : Signature) → AreComplete a p xs → complete x a p ≡ true → AreComplete a p (xs ++ x ∷ [])
-complete_one_more [] a p x all one = (one, tt)
-complete_one_more (y ∷ ys) a p x all one = (all.0, complete_one_more ys a p x all.1 one)
 
 pub complete_more : (xs : List Signature) (i a p : ℕ) (x : Signature) → i < length xs → x ≡ get_or xs i x → AreComplete a p (take i xs) → complete x a p ≡ true → AreComplete a p (take (i + 1) xs)
 complete_more xs i a p x within is all one = subst (AreComplete a p) (ap (λ (y : Signature). take i xs ++ y ∷ []) is ∙ sym (take_more xs i x within)) (complete_one_more (take i xs) a p x all one)

@@ -1,11 +1,13 @@
 -- `==` on signatures is equality of values.
-use Rattle.std.proofs.Common.{◌≡◌, Bool, true, false, List, [], ◌∷◌, map, Option, Some, None, refl, sym, ap, ◌∙◌, subst}
+use Rattle.std.proofs.Common.{◌≡◌, true, List, [], ◌∷◌, map, Some, None, refl, sym, ap, ◌∙◌, subst}
 use Rattle.std.specs.Cmp.Lexicographic.{pointwise}
 use Rattle.std.proofs.lemmas.Bool.{false≢true, and_parts}
+use Rattle.std.proofs.lemmas.Option.{none-some, same_Some}
 use Rattle.bus_signature.specs.declared.signature.Signature.{Signature}
 use Rattle.bus_signature.specs.declared.signature.Signature.TheVariants.{Unit, Array, Dict, Structure}
 use Rattle.bus_signature.proofs.Cases.{induct}
-use Rattle.bus_signature.proofs.Named.{named, same, same_itself, named_alike, same_array, same_dict, same_structure, array_dict, array_structure, dict_array, dict_structure, structure_array, structure_dict, named_array, named_dict, named_structure, named_Unit}
+use Rattle.bus_signature.proofs.Named.{named, same, same_itself, named_alike, same_array, same_dict, same_structure, array_dict, array_structure, dict_array, dict_structure, structure_array}
+use Rattle.bus_signature.proofs.Named.{structure_dict, named_array, named_dict, named_structure, named_Unit}
 
 pub data Kind (t : Signature) : Type 0 where
   bare : named t ≡ Some t → Kind t
@@ -19,26 +21,16 @@ kind = induct Kind (bare named_Unit) (λ c s is. bare is.named) (λ s _. array s
 abbrev IsSame : Signature → Type 0
 IsSame s = (t : Signature) → same s t ≡ true → s ≡ t
 
-value_of : Option Signature → Signature
-value_of None = Unit
-value_of (Some s) = s
-
-is_there : Option Signature → Bool
-is_there None = false
-is_there (Some s) = true
-
 no_name : (s t : Signature) → named s ≡ None → named t ≡ Some t → named s ≡ named t → ⊥
-unfolding is_there
-no_name s t none some e = false≢true (ap is_there (sym none ∙ e ∙ some))
+no_name s t none some e = none-some t (sym none ∙ e ∙ some)
 
 same_bare : (s : Signature) → named s ≡ Some s → IsSame s
-unfolding value_of
 same_bare s is t e = by (kind t) where
   none : named t ≡ None → s ≡ t
   none it = absurd (no_name t s it is (sym (named_alike s t e)))
 
   by : Kind t → s ≡ t
-  by (bare it) = ap value_of (sym is ∙ named_alike s t e ∙ it)
+  by (bare it) = same_Some s t (sym is ∙ named_alike s t e ∙ it)
   by (array u it) = none (ap named it ∙ named_array u)
   by (dict k v it) = none (ap named it ∙ named_dict k v)
   by (structure fs it) = none (ap named it ∙ named_structure fs)

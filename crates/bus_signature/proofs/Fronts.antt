@@ -7,7 +7,8 @@ use Rattle.bus_signature.specs.declared.signature.Signature.TheVariants.{Array, 
 use Rattle.bus_signature.specs.Texts.{text, texts}
 use Rattle.bus_signature.specs.Grammar.{complete, AreComplete}
 use Rattle.bus_signature.proofs.TextLemmas.{text_array, text_dict, text_structure}
-use Rattle.bus_signature.proofs.Cases.{Simple, induct, opens, complete_unit, complete_array_0, complete_array, complete_dict_0, complete_dict, complete_structure_0, complete_structure_empty, complete_structure}
+use Rattle.bus_signature.proofs.Cases.{Simple, induct, opens, complete_unit, complete_array_0, complete_array, complete_dict_0, complete_dict, complete_structure_0, complete_structure_empty}
+use Rattle.bus_signature.proofs.Cases.{complete_structure}
 
 -- a complete type, by its front
 pub data Front (s : Signature) (a p : ℕ) : Type 0 where
@@ -27,6 +28,11 @@ pub all_complete : (fs : List Signature) (a p : ℕ) → AreComplete a p fs → 
 all_complete [] a p e = refl
 all_complete (f ∷ fs) a p e = rw (e.0) (all_complete fs a p e.1)
 
+-- one more behind complete types
+pub complete_one_more : (xs : List Signature) (a p : ℕ) (x : Signature) → AreComplete a p xs → complete x a p ≡ true → AreComplete a p (xs ++ x ∷ [])
+complete_one_more [] a p x all one = (one, tt)
+complete_one_more (y ∷ ys) a p x all one = (all.0, complete_one_more ys a p x all.1 one)
+
 front_array : (t : Signature) → HasFront (Array t)
 front_array t zero p e = absurd (false≢true (sym (complete_array_0 t p) ∙ e))
 front_array t (suc a) p e = array a t refl refl (sym (complete_array t a p) ∙ e)
@@ -41,7 +47,9 @@ front_structure [] a (suc p) e = absurd (false≢true (sym (complete_structure_e
 front_structure (f ∷ fs) a (suc p) e = structure p f fs refl refl (are_complete (f ∷ fs) a p (sym (complete_structure f fs a p) ∙ e))
 
 pub front : (s : Signature) → HasFront s
-front = induct HasFront (λ a p e. absurd (false≢true (sym (complete_unit a p) ∙ e))) (λ c s is a p e. simple c is) (λ s _. front_array s) (λ k v _ _. front_dict k v) (λ es. front_structure (map (λ e. e.0) es))
+front =
+    induct HasFront (λ a p e. absurd (false≢true (sym (complete_unit a p) ∙ e))) (λ c s is a p e. simple c is) (λ s _. front_array s) (λ k v _ _. front_dict k v)
+    (λ es. front_structure (map (λ e. e.0) es))
 
 -- the text of each, in front of what follows
 pub simple_text : (c : ℕ) (s : Signature) → Simple c s → (r : List ℕ) → text s ++ r ≡ c ∷ r
@@ -51,7 +59,9 @@ pub array_text : (s t : Signature) → s ≡ Array t → (r : List ℕ) → text
 array_text s t is r = ap (λ (x : Signature). text x ++ r) is ∙ ap (λ (x : List ℕ). x ++ r) (text_array t)
 
 pub dict_text : (s k v : Signature) → s ≡ Dict k v → (r : List ℕ) → text s ++ r ≡ 97 ∷ 123 ∷ text k ++ (text v ++ (125 ∷ r))
-dict_text s k v is r = ap (λ (x : Signature). text x ++ r) is ∙ ap (λ (x : List ℕ). x ++ r) (text_dict k v) ∙ ap (λ (x : List ℕ). 97 ∷ 123 ∷ x) (append_assoc (text k ++ text v) (125 ∷ []) r ∙ append_assoc (text k) (text v) (125 ∷ r))
+dict_text s k v is r =
+    ap (λ (x : Signature). text x ++ r) is ∙ ap (λ (x : List ℕ). x ++ r) (text_dict k v) ∙ ap (λ (x : List ℕ). 97 ∷ 123 ∷ x)
+    (append_assoc (text k ++ text v) (125 ∷ []) r ∙ append_assoc (text k) (text v) (125 ∷ r))
 
 pub structure_text : (s : Signature) (fs : List Signature) → s ≡ Structure fs → (r : List ℕ) → text s ++ r ≡ 40 ∷ texts fs ++ (41 ∷ r)
 structure_text s fs is r = ap (λ (x : Signature). text x ++ r) is ∙ ap (λ (x : List ℕ). x ++ r) (text_structure fs) ∙ ap (λ (x : List ℕ). 40 ∷ x) (append_assoc (texts fs) (41 ∷ []) r)

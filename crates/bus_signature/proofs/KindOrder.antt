@@ -1,19 +1,20 @@
 -- The order by kind.
-use Rattle.std.proofs.Common.{◌≡◌, ℕ, ◌<◌, zero, suc, Bool, true, false, List, [], ◌∷◌, length, Option, Some, None, sym, ap, ◌∙◌, subst, arith, Less, Equal, is_eq, if◌then◌else◌}
-use Rattle.std.specs.Prelude.{⊤}
-use Rattle.std.proofs.lemmas.Bool.{false≢true}
+use Rattle.std.proofs.Common.{◌≡◌, ℕ, ◌<◌, zero, suc, Bool, true, false, List, [], ◌∷◌, ◌++◌, length, Some, refl, sym, ap, ◌∙◌, subst, arith, Less, Equal, is_eq, if◌then◌else◌}
+use Rattle.std.specs.Prelude.{⊤, ◌↔◌}
+use Rattle.std.proofs.lemmas.Option.{none-some, same_Some}
 use Rattle.std.proofs.lemmas.Cmp.{tied_itself}
 use Rattle.bus_signature.specs.declared.signature.Signature.{Signature}
 use Rattle.bus_signature.specs.declared.signature.Signature.TheOpen.{Signature-F}
 use Rattle.bus_signature.specs.declared.signature.Signature.TheViews.{out-Signature, roll-Signature}
-use Rattle.bus_signature.specs.declared.signature.Signature.TheFolds.{fold-roll-Signature}
-use Rattle.bus_signature.specs.declared.signature.Signature.TheVariants.{Unit, U8, Bool as Boolean, I16, U16, I32, U32, I64, U64, F64, Str, Signature as Sig, ObjectPath, Variant, Fd, Array, Dict, Structure, rolls-Array, rolls-Dict, rolls-Structure}
+use Rattle.bus_signature.specs.declared.signature.Signature.TheFolds.{fold-roll-Signature, map-Signature}
+use Rattle.bus_signature.specs.declared.signature.Signature.TheVariants.{Unit, U8, Bool as Boolean, I16, U16, I32, U32, I64, U64, F64, Str, Signature as Sig, ObjectPath, Variant, Fd, Array, Dict}
+use Rattle.bus_signature.specs.declared.signature.Signature.TheVariants.{Structure, rolls-Array, rolls-Dict, rolls-Structure}
 use Rattle.bus_signature.specs.contracts.signature.SignatureOrd.TheImpl as O
 use Rattle.bus_signature.specs.contracts.signature.SignatureOrd.TheImpl.Laws as L
 use Rattle.bus_signature.specs.contracts.signature.SignatureOrd.TheImpl.Laws.{total-law, matches_eq-law}
 use Rattle.bus_signature.specs.contracts.signature.SignaturePartialEq.TheImpl.Laws as LE
 use Rattle.bus_signature.specs.Order.{kind, kind_step, IsSignatureOrder}
-use Rattle.bus_signature.proofs.Named.{named, first}
+use Rattle.bus_signature.proofs.Named.{named, first, same, bare_ones}
 use Rattle.bus_signature.proofs.Equal.{Kind, bare, array, dict, structure, kind as the_kind, only_same}
 use Rattle.bus_signature.proofs.Ordered.{order_array, order_dict, order_structure, fd_array, array_dict}
 
@@ -48,8 +49,16 @@ below_more : (k m : Signature) → Lesser k m → (ks : List Signature) → Belo
 below_more k m lt [] below = tt
 below_more k m lt (j ∷ js) below = (total-law.trans k m j lt below.0, below_more k m lt js below.1)
 
-rise : (k m : Signature) (ks : List Signature) → Lesser k m → Rising (m ∷ ks) → Rising (k ∷ m ∷ ks)
-rise k m ks lt up = ((lt, below_more k m lt ks up.0), up)
+-- each less than the next
+abbrev AreSteps : List Signature → Type 0
+AreSteps [] = ⊤
+AreSteps (k ∷ []) = ⊤
+AreSteps (k ∷ m ∷ ks) = Lesser k m × AreSteps (m ∷ ks)
+
+rises : (ks : List Signature) → AreSteps ks → Rising ks
+rises [] steps = tt
+rises (k ∷ []) steps = (tt, tt)
+rises (k ∷ m ∷ ks) steps = let up = rises (m ∷ ks) steps.1 in ((steps.0, below_more k m steps.0 ks up.0), up)
 
 at : List Signature → ℕ → Signature
 at [] n = Fd
@@ -71,190 +80,53 @@ pairs (k ∷ ks) up (suc i) (suc j) lt within = pairs ks up.1 i j (omega (arith,
 
 -- those without inner ones, and then t
 abbrev with_last : Signature → List Signature
-with_last t = Unit ∷ U8 ∷ Boolean ∷ I16 ∷ U16 ∷ I32 ∷ U32 ∷ I64 ∷ U64 ∷ F64 ∷ Str ∷ Sig ∷ ObjectPath ∷ Variant ∷ Fd ∷ t ∷ []
-
-next_Unit : Lesser Unit U8
-unfolding out-Signature denote.Hole.Carrier.out
-next_Unit = L.is Unit U8
-
-next_U8 : Lesser U8 Boolean
-unfolding out-Signature denote.Hole.Carrier.out
-next_U8 = L.is U8 Boolean
-
-next_Bool : Lesser Boolean I16
-unfolding out-Signature denote.Hole.Carrier.out
-next_Bool = L.is Boolean I16
-
-next_I16 : Lesser I16 U16
-unfolding out-Signature denote.Hole.Carrier.out
-next_I16 = L.is I16 U16
-
-next_U16 : Lesser U16 I32
-unfolding out-Signature denote.Hole.Carrier.out
-next_U16 = L.is U16 I32
-
-next_I32 : Lesser I32 U32
-unfolding out-Signature denote.Hole.Carrier.out
-next_I32 = L.is I32 U32
-
-next_U32 : Lesser U32 I64
-unfolding out-Signature denote.Hole.Carrier.out
-next_U32 = L.is U32 I64
-
-next_I64 : Lesser I64 U64
-unfolding out-Signature denote.Hole.Carrier.out
-next_I64 = L.is I64 U64
-
-next_U64 : Lesser U64 F64
-unfolding out-Signature denote.Hole.Carrier.out
-next_U64 = L.is U64 F64
-
-next_F64 : Lesser F64 Str
-unfolding out-Signature denote.Hole.Carrier.out
-next_F64 = L.is F64 Str
-
-next_Str : Lesser Str Sig
-unfolding out-Signature denote.Hole.Carrier.out
-next_Str = L.is Str Sig
-
-next_Signature : Lesser Sig ObjectPath
-unfolding out-Signature denote.Hole.Carrier.out
-next_Signature = L.is Sig ObjectPath
-
-next_ObjectPath : Lesser ObjectPath Variant
-unfolding out-Signature denote.Hole.Carrier.out
-next_ObjectPath = L.is ObjectPath Variant
-
-next_Variant : Lesser Variant Fd
-unfolding out-Signature denote.Hole.Carrier.out
-next_Variant = L.is Variant Fd
+with_last t = bare_ones ++ t ∷ []
 
 rising : (t : Signature) → Lesser Fd t → Rising (with_last t)
-rising t last = rise Unit U8 (Boolean ∷ I16 ∷ U16 ∷ I32 ∷ U32 ∷ I64 ∷ U64 ∷ F64 ∷ Str ∷ Sig ∷ ObjectPath ∷ Variant ∷ Fd ∷ t ∷ []) next_Unit (rise U8 Boolean (I16 ∷ U16 ∷ I32 ∷ U32 ∷ I64 ∷ U64 ∷ F64 ∷ Str ∷ Sig ∷ ObjectPath ∷ Variant ∷ Fd ∷ t ∷ []) next_U8 (rise Boolean I16 (U16 ∷ I32 ∷ U32 ∷ I64 ∷ U64 ∷ F64 ∷ Str ∷ Sig ∷ ObjectPath ∷ Variant ∷ Fd ∷ t ∷ []) next_Bool (rise I16 U16 (I32 ∷ U32 ∷ I64 ∷ U64 ∷ F64 ∷ Str ∷ Sig ∷ ObjectPath ∷ Variant ∷ Fd ∷ t ∷ []) next_I16 (rise U16 I32 (U32 ∷ I64 ∷ U64 ∷ F64 ∷ Str ∷ Sig ∷ ObjectPath ∷ Variant ∷ Fd ∷ t ∷ []) next_U16 (rise I32 U32 (I64 ∷ U64 ∷ F64 ∷ Str ∷ Sig ∷ ObjectPath ∷ Variant ∷ Fd ∷ t ∷ []) next_I32 (rise U32 I64 (U64 ∷ F64 ∷ Str ∷ Sig ∷ ObjectPath ∷ Variant ∷ Fd ∷ t ∷ []) next_U32 (rise I64 U64 (F64 ∷ Str ∷ Sig ∷ ObjectPath ∷ Variant ∷ Fd ∷ t ∷ []) next_I64 (rise U64 F64 (Str ∷ Sig ∷ ObjectPath ∷ Variant ∷ Fd ∷ t ∷ []) next_U64 (rise F64 Str (Sig ∷ ObjectPath ∷ Variant ∷ Fd ∷ t ∷ []) next_F64 (rise Str Sig (ObjectPath ∷ Variant ∷ Fd ∷ t ∷ []) next_Str (rise Sig ObjectPath (Variant ∷ Fd ∷ t ∷ []) next_Signature (rise ObjectPath Variant (Fd ∷ t ∷ []) next_ObjectPath (rise Variant Fd (t ∷ []) next_Variant (rise Fd t [] last (tt, tt)))))))))))))))
+unfolding out-Signature denote.Hole.Carrier.out
+rising t last = rises (with_last t) ((
+  L.is Unit U8,
+  (
+    L.is U8 Boolean,
+    (
+      L.is Boolean I16,
+      (
+        L.is I16 U16,
+        (
+          L.is U16 I32,
+          (
+            L.is I32 U32,
+            (
+              L.is U32 I64,
+              (
+                L.is I64 U64,
+                (
+                  L.is U64 F64,
+                  (
+                    L.is F64 Str,
+                    (L.is Str Sig, (L.is Sig ObjectPath, (L.is ObjectPath Variant, (L.is Variant Fd, (last, tt))))),
+                  ),
+                ),
+              ),
+            ),
+          ),
+        ),
+      ),
+    ),
+  ),
+)
+    )
 
 record Bare (s : Signature) : Type 0 where
   stands : (t : Signature) → at (with_last t) (kind s) ≡ s
   within : kind s < 15
 
-kind_Unit : kind Unit ≡ 0
-unfolding roll-Signature denote.Hole.Carrier.roll kind at
-kind_Unit = fold-roll-Signature ℕ kind_step Signature-F.Unit
-
-bare_Unit : Bare Unit
-unfolding at
-bare_Unit = record { stands = λ t. ap (at (with_last t)) kind_Unit; within = rw kind_Unit (omega arith) }
-
-kind_U8 : kind U8 ≡ 1
-unfolding roll-Signature denote.Hole.Carrier.roll kind at
-kind_U8 = fold-roll-Signature ℕ kind_step Signature-F.U8
-
-bare_U8 : Bare U8
-unfolding at
-bare_U8 = record { stands = λ t. ap (at (with_last t)) kind_U8; within = rw kind_U8 (omega arith) }
-
-kind_Bool : kind Boolean ≡ 2
-unfolding roll-Signature denote.Hole.Carrier.roll kind at
-kind_Bool = fold-roll-Signature ℕ kind_step Signature-F.Bool
-
-bare_Bool : Bare Boolean
-unfolding at
-bare_Bool = record { stands = λ t. ap (at (with_last t)) kind_Bool; within = rw kind_Bool (omega arith) }
-
-kind_I16 : kind I16 ≡ 3
-unfolding roll-Signature denote.Hole.Carrier.roll kind at
-kind_I16 = fold-roll-Signature ℕ kind_step Signature-F.I16
-
-bare_I16 : Bare I16
-unfolding at
-bare_I16 = record { stands = λ t. ap (at (with_last t)) kind_I16; within = rw kind_I16 (omega arith) }
-
-kind_U16 : kind U16 ≡ 4
-unfolding roll-Signature denote.Hole.Carrier.roll kind at
-kind_U16 = fold-roll-Signature ℕ kind_step Signature-F.U16
-
-bare_U16 : Bare U16
-unfolding at
-bare_U16 = record { stands = λ t. ap (at (with_last t)) kind_U16; within = rw kind_U16 (omega arith) }
-
-kind_I32 : kind I32 ≡ 5
-unfolding roll-Signature denote.Hole.Carrier.roll kind at
-kind_I32 = fold-roll-Signature ℕ kind_step Signature-F.I32
-
-bare_I32 : Bare I32
-unfolding at
-bare_I32 = record { stands = λ t. ap (at (with_last t)) kind_I32; within = rw kind_I32 (omega arith) }
-
-kind_U32 : kind U32 ≡ 6
-unfolding roll-Signature denote.Hole.Carrier.roll kind at
-kind_U32 = fold-roll-Signature ℕ kind_step Signature-F.U32
-
-bare_U32 : Bare U32
-unfolding at
-bare_U32 = record { stands = λ t. ap (at (with_last t)) kind_U32; within = rw kind_U32 (omega arith) }
-
-kind_I64 : kind I64 ≡ 7
-unfolding roll-Signature denote.Hole.Carrier.roll kind at
-kind_I64 = fold-roll-Signature ℕ kind_step Signature-F.I64
-
-bare_I64 : Bare I64
-unfolding at
-bare_I64 = record { stands = λ t. ap (at (with_last t)) kind_I64; within = rw kind_I64 (omega arith) }
-
-kind_U64 : kind U64 ≡ 8
-unfolding roll-Signature denote.Hole.Carrier.roll kind at
-kind_U64 = fold-roll-Signature ℕ kind_step Signature-F.U64
-
-bare_U64 : Bare U64
-unfolding at
-bare_U64 = record { stands = λ t. ap (at (with_last t)) kind_U64; within = rw kind_U64 (omega arith) }
-
-kind_F64 : kind F64 ≡ 9
-unfolding roll-Signature denote.Hole.Carrier.roll kind at
-kind_F64 = fold-roll-Signature ℕ kind_step Signature-F.F64
-
-bare_F64 : Bare F64
-unfolding at
-bare_F64 = record { stands = λ t. ap (at (with_last t)) kind_F64; within = rw kind_F64 (omega arith) }
-
-kind_Str : kind Str ≡ 10
-unfolding roll-Signature denote.Hole.Carrier.roll kind at
-kind_Str = fold-roll-Signature ℕ kind_step Signature-F.Str
-
-bare_Str : Bare Str
-unfolding at
-bare_Str = record { stands = λ t. ap (at (with_last t)) kind_Str; within = rw kind_Str (omega arith) }
-
-kind_Signature : kind Sig ≡ 11
-unfolding roll-Signature denote.Hole.Carrier.roll kind at
-kind_Signature = fold-roll-Signature ℕ kind_step Signature-F.Signature
-
-bare_Signature : Bare Sig
-unfolding at
-bare_Signature = record { stands = λ t. ap (at (with_last t)) kind_Signature; within = rw kind_Signature (omega arith) }
-
-kind_ObjectPath : kind ObjectPath ≡ 12
-unfolding roll-Signature denote.Hole.Carrier.roll kind at
-kind_ObjectPath = fold-roll-Signature ℕ kind_step Signature-F.ObjectPath
-
-bare_ObjectPath : Bare ObjectPath
-unfolding at
-bare_ObjectPath = record { stands = λ t. ap (at (with_last t)) kind_ObjectPath; within = rw kind_ObjectPath (omega arith) }
-
-kind_Variant : kind Variant ≡ 13
-unfolding roll-Signature denote.Hole.Carrier.roll kind at
-kind_Variant = fold-roll-Signature ℕ kind_step Signature-F.Variant
-
-bare_Variant : Bare Variant
-unfolding at
-bare_Variant = record { stands = λ t. ap (at (with_last t)) kind_Variant; within = rw kind_Variant (omega arith) }
-
-kind_Fd : kind Fd ≡ 14
-unfolding roll-Signature denote.Hole.Carrier.roll kind at
-kind_Fd = fold-roll-Signature ℕ kind_step Signature-F.Fd
-
-bare_Fd : Bare Fd
-unfolding at
-bare_Fd = record { stands = λ t. ap (at (with_last t)) kind_Fd; within = rw kind_Fd (omega arith) }
+by_layer : (n : ℕ) (x : Signature-F Signature) (s : Signature) → roll-Signature x ≡ s → kind_step (map-Signature Signature ℕ kind x) ≡ n
+    → ((t : Signature) → at (with_last t) n ≡ s) → n < 15 → Bare s
+unfolding kind
+by_layer n x s is step stands within = record { stands = λ t. ap (at (with_last t)) numbered ∙ stands t; within = rw numbered within } where
+  numbered : kind s ≡ n
+  numbered = ap (λ (y : Signature). kind y) (sym is) ∙ fold-roll-Signature ℕ kind_step x ∙ step
 
 kind_array : (s : Signature) → kind (Array s) ≡ 15
 unfolding kind
@@ -272,25 +144,64 @@ abbrev AreBare : List Signature → Type 0
 AreBare [] = ⊤
 AreBare (k ∷ ks) = Bare k × AreBare ks
 
-value_of : Option Signature → Signature
-value_of None = Unit
-value_of (Some s) = s
-
-is_there : Option Signature → Bool
-is_there None = false
-is_there (Some s) = true
-
 among : (ks : List Signature) → AreBare ks → (s k : Signature) → first ks s ≡ Some k → Bare k
-unfolding first value_of is_there
-among [] all s k e = absurd (false≢true (ap is_there e))
+unfolding first
+among [] all s k e = absurd (none-some k e)
 among (m ∷ ms) all s k e = by (LE.unfolded s m) e (among ms all.1 s k) where
   by : (b : Bool) → (if b then Some m else first ms s) ≡ Some k → (first ms s ≡ Some k → Bare k) → Bare k
-  by true e more = subst Bare (ap value_of e) all.0
+  by true e more = subst Bare (same_Some m k e) all.0
   by false e more = more e
+
+all_bare : AreBare bare_ones
+unfolding roll-Signature denote.Hole.Carrier.roll at
+all_bare = ((
+  by_layer 0 Signature-F.Unit Unit refl refl (λ t. refl) (omega arith),
+  (
+    by_layer 1 Signature-F.U8 U8 refl refl (λ t. refl) (omega arith),
+    (
+      by_layer 2 Signature-F.Bool Boolean refl refl (λ t. refl) (omega arith),
+      (
+        by_layer 3 Signature-F.I16 I16 refl refl (λ t. refl) (omega arith),
+        (
+          by_layer 4 Signature-F.U16 U16 refl refl (λ t. refl) (omega arith),
+          (
+            by_layer 5 Signature-F.I32 I32 refl refl (λ t. refl) (omega arith),
+            (
+              by_layer 6 Signature-F.U32 U32 refl refl (λ t. refl) (omega arith),
+              (
+                by_layer 7 Signature-F.I64 I64 refl refl (λ t. refl) (omega arith),
+                (
+                  by_layer 8 Signature-F.U64 U64 refl refl (λ t. refl) (omega arith),
+                  (
+                    by_layer 9 Signature-F.F64 F64 refl refl (λ t. refl) (omega arith),
+                    (
+                      by_layer 10 Signature-F.Str Str refl refl (λ t. refl) (omega arith),
+                      (
+                        by_layer 11 Signature-F.Signature Sig refl refl (λ t. refl) (omega arith),
+                        (
+                          by_layer 12 Signature-F.ObjectPath ObjectPath refl refl (λ t. refl) (omega arith),
+                          (
+                            by_layer 13 Signature-F.Variant Variant refl refl (λ t. refl) (omega arith),
+                            (by_layer 14 Signature-F.Fd Fd refl refl (λ t. refl) (omega arith), tt),
+                          ),
+                        ),
+                      ),
+                    ),
+                  ),
+                ),
+              ),
+            ),
+          ),
+        ),
+      ),
+    ),
+  ),
+)
+    )
 
 bare_of : (t : Signature) → named t ≡ Some t → Bare t
 unfolding named
-bare_of t e = among (Unit ∷ U8 ∷ Boolean ∷ I16 ∷ U16 ∷ I32 ∷ U32 ∷ I64 ∷ U64 ∷ F64 ∷ Str ∷ Sig ∷ ObjectPath ∷ Variant ∷ Fd ∷ []) (bare_Unit, (bare_U8, (bare_Bool, (bare_I16, (bare_U16, (bare_I32, (bare_U32, (bare_I64, (bare_U64, (bare_F64, (bare_Str, (bare_Signature, (bare_ObjectPath, (bare_Variant, (bare_Fd, tt))))))))))))))) t t e
+bare_of t e = among bare_ones all_bare t t e
 
 bare_first : (s : Signature) → Bare s → (t : Signature) → Lesser Fd t → Lesser s t
 unfolding at
@@ -329,3 +240,7 @@ is_signature_order = record {
   total = total-law;
   equal = λ s t. (λ e. only_same s t (matches_eq-law s t ∙ ap is_eq e), λ e. subst (λ (x : Signature). (O.ghosts).cmp s x ≡ Equal) e (tied_itself total-law s));
 }
+
+-- `Equal` is answered exactly where `==` holds
+pub ties_equal : (s t : Signature) → ((O.ghosts).cmp s t ≡ Equal) ↔ (same s t ≡ true)
+ties_equal s t = (λ e. matches_eq-law s t ∙ ap is_eq e, λ e. (is_signature_order.equal s t).1 (only_same s t e))

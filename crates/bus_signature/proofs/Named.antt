@@ -3,7 +3,8 @@ use Rattle.std.proofs.Common.{◌≡◌, Bool, true, false, ◌&&◌, List, [], 
 use Rattle.std.specs.Cmp.Lexicographic.{pointwise}
 use Rattle.bus_signature.specs.declared.signature.Signature.{Signature}
 use Rattle.bus_signature.specs.declared.signature.Signature.TheViews.{out-Signature, outs-Structure}
-use Rattle.bus_signature.specs.declared.signature.Signature.TheVariants.{Unit, U8, Bool as Boolean, I16, U16, I32, U32, I64, U64, F64, Str, Signature as Sig, ObjectPath, Variant, Fd, Array, Dict, Structure}
+use Rattle.bus_signature.specs.declared.signature.Signature.TheVariants.{Unit, U8, Bool as Boolean, I16, U16, I32, U32, I64, U64, F64, Str, Signature as Sig, ObjectPath, Variant, Fd, Array, Dict}
+use Rattle.bus_signature.specs.declared.signature.Signature.TheVariants.{Structure}
 use Rattle.bus_signature.specs.contracts.signature.SignaturePartialEq.TheImpl as E
 use Rattle.bus_signature.specs.contracts.signature.SignaturePartialEq.TheImpl.Laws as L
 use Rattle.bus_signature.specs.contracts.signature.SignatureEq.TheImpl.Laws.{laws-law}
@@ -16,9 +17,13 @@ unfoldable pub first : List Signature → Signature → Option Signature
 first [] s = None
 first (k ∷ ks) s = if L.unfolded s k then Some k else first ks s
 
+-- those without inner ones
+abbrev pub bare_ones : List Signature
+bare_ones = Unit ∷ U8 ∷ Boolean ∷ I16 ∷ U16 ∷ I32 ∷ U32 ∷ I64 ∷ U64 ∷ F64 ∷ Str ∷ Sig ∷ ObjectPath ∷ Variant ∷ Fd ∷ []
+
 unfoldable pub named : Signature → Option Signature
 unfolding first
-named s = first (Unit ∷ U8 ∷ Boolean ∷ I16 ∷ U16 ∷ I32 ∷ U32 ∷ I64 ∷ U64 ∷ F64 ∷ Str ∷ Sig ∷ ObjectPath ∷ Variant ∷ Fd ∷ []) s
+named s = first bare_ones s
 
 first_alike : (ks : List Signature) (s t : Signature) → ((k : Signature) → same s k ≡ same t k) → first ks s ≡ first ks t
 unfolding first
@@ -27,7 +32,7 @@ first_alike (k ∷ ks) s t alike = rw (first_alike ks s t alike, sym (L.is s k) 
 
 pub named_alike : (s t : Signature) → same s t ≡ true → named s ≡ named t
 unfolding named
-named_alike s t e = first_alike (Unit ∷ U8 ∷ Boolean ∷ I16 ∷ U16 ∷ I32 ∷ U32 ∷ I64 ∷ U64 ∷ F64 ∷ Str ∷ Sig ∷ ObjectPath ∷ Variant ∷ Fd ∷ []) s t (λ k. laws-law.congr s t k e)
+named_alike s t e = first_alike bare_ones s t (λ k. laws-law.congr s t k e)
 
 pub same_itself : (s : Signature) → same s s ≡ true
 same_itself s = laws-law.refl s
@@ -82,59 +87,3 @@ named_structure fs = refl
 pub named_Unit : named Unit ≡ Some Unit
 unfolding out-Signature denote.Hole.Carrier.out named first
 named_Unit = refl
-
-pub named_U8 : named U8 ≡ Some U8
-unfolding out-Signature denote.Hole.Carrier.out named first
-named_U8 = refl
-
-pub named_Bool : named Boolean ≡ Some Boolean
-unfolding out-Signature denote.Hole.Carrier.out named first
-named_Bool = refl
-
-pub named_I16 : named I16 ≡ Some I16
-unfolding out-Signature denote.Hole.Carrier.out named first
-named_I16 = refl
-
-pub named_U16 : named U16 ≡ Some U16
-unfolding out-Signature denote.Hole.Carrier.out named first
-named_U16 = refl
-
-pub named_I32 : named I32 ≡ Some I32
-unfolding out-Signature denote.Hole.Carrier.out named first
-named_I32 = refl
-
-pub named_U32 : named U32 ≡ Some U32
-unfolding out-Signature denote.Hole.Carrier.out named first
-named_U32 = refl
-
-pub named_I64 : named I64 ≡ Some I64
-unfolding out-Signature denote.Hole.Carrier.out named first
-named_I64 = refl
-
-pub named_U64 : named U64 ≡ Some U64
-unfolding out-Signature denote.Hole.Carrier.out named first
-named_U64 = refl
-
-pub named_F64 : named F64 ≡ Some F64
-unfolding out-Signature denote.Hole.Carrier.out named first
-named_F64 = refl
-
-pub named_Str : named Str ≡ Some Str
-unfolding out-Signature denote.Hole.Carrier.out named first
-named_Str = refl
-
-pub named_Signature : named Sig ≡ Some Sig
-unfolding out-Signature denote.Hole.Carrier.out named first
-named_Signature = refl
-
-pub named_ObjectPath : named ObjectPath ≡ Some ObjectPath
-unfolding out-Signature denote.Hole.Carrier.out named first
-named_ObjectPath = refl
-
-pub named_Variant : named Variant ≡ Some Variant
-unfolding out-Signature denote.Hole.Carrier.out named first
-named_Variant = refl
-
-pub named_Fd : named Fd ≡ Some Fd
-unfolding out-Signature denote.Hole.Carrier.out named first
-named_Fd = refl

@@ -7,7 +7,6 @@ use Rattle.bus_signature.specs.declared.signature.Signature.TheViews.{out-Signat
 use Rattle.bus_signature.specs.declared.signature.Signature.TheVariants.{Fd, Array, Dict, Structure}
 use Rattle.bus_signature.specs.contracts.signature.SignatureOrd.TheImpl as O
 use Rattle.bus_signature.specs.contracts.signature.SignatureOrd.TheImpl.Laws as L
-use Rattle.bus_signature.specs.contracts.signature.SignatureOrd.TheImpl.Laws.{total-law}
 
 pub order_array : (s t : Signature) → (O.ghosts).cmp (Array s) (Array t) ≡ (O.ghosts).cmp s t
 unfolding out-Signature denote.Hole.Carrier.out Rattle.bus_signature.specs.declared.signature.Signature.TheBlock.shown-the_row-Signature-0 denote.Hole.Carrier.shown denote.Hole.Carrier.hidden

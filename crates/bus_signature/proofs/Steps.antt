@@ -1,20 +1,24 @@
 -- What each step of a reader comes to.
-use Rattle.std.proofs.Common.{◌≡◌, ℕ, ◌==◌, ◌-◌, ◌<◌, zero, suc, Bool, true, false, List, [], ◌∷◌, ◌++◌, length, Option, Some, None, Result, Ok, Err, refl, sym, ap, ◌∙◌, subst, inl, inr, append_assoc, arith, if◌then◌else◌}
+use Rattle.std.proofs.Common.{◌≡◌, ℕ, ◌==◌, ◌-◌, ◌<◌, zero, suc, Bool, true, false, List, [], ◌∷◌, ◌++◌, length, Option, Some, None, Result, Ok, Err, refl, sym, ap, ◌∙◌, subst, inl, inr}
+use Rattle.std.proofs.Common.{append_assoc, arith, if◌then◌else◌}
 use Rattle.std.specs.Prelude.{⊤, is_some}
 use Rattle.std.specs.Borrow.{Bor}
 use Rattle.std.proofs.lemmas.Bool.{false≢true, true≢false, eqb-true, and_from}
+use Rattle.std.proofs.lemmas.Option.{none-some, same_Some}
 use Rattle.std.specs.Result.{IsErrAnd}
 use Rattle.std.proofs.lemmas.Result.{err_from_is_err_and}
 use Rattle.std.proofs.lemmas.List.{append-nil, length-append}
 use Rattle.bus_signature.specs.declared.signature.Signature.{Signature}
-use Rattle.bus_signature.specs.declared.signature.Signature.TheVariants.{Unit, Array, Dict, Structure}
+use Rattle.bus_signature.specs.declared.signature.Signature.TheVariants.{Array, Dict, Structure}
 use Rattle.bus_signature.specs.declared.error.Error.{Error}
 use Rattle.bus_signature.specs.declared.error.Error.TheVariants as error
 use Rattle.bus_signature.specs.Texts.{text, texts}
 use Rattle.bus_signature.specs.Grammar.{complete, AreComplete, whole, Spells, SpellsNone, Read, ReadAs, IsReadable}
 use Rattle.bus_signature.specs.Taking.{letter, letters, find_letter, Takes, TakesNone, Took, Stops, TakesAll, TookAll, Skipped}
-use Rattle.bus_signature.proofs.Cases.{Simple, text_unit, complete_array, complete_dict, complete_structure, simple_U8, simple_Bool, simple_I16, simple_U16, simple_I32, simple_U32, simple_I64, simple_U64, simple_F64, simple_Str, simple_Signature, simple_ObjectPath, simple_Variant, simple_Fd}
+use Rattle.bus_signature.proofs.Cases.{Simple, text_unit, complete_array, complete_dict, complete_structure, simple_U8, simple_Bool, simple_I16, simple_U16, simple_I32, simple_U32, simple_I64}
+use Rattle.bus_signature.proofs.Cases.{simple_U64, simple_F64, simple_Str, simple_Signature, simple_ObjectPath, simple_Variant, simple_Fd}
 use Rattle.bus_signature.proofs.Fronts.{Front, simple, array, dict, structure, front, simple_text, array_text, dict_text, structure_text, heads, tails, first_opens, not_empty, all_complete}
+use Rattle.bus_signature.proofs.Fronts.{complete_one_more}
 use Rattle.bus_signature.proofs.Unique.{only, only_types, no_letter, no_stop}
 
 -- what an early return gives
@@ -30,24 +34,37 @@ abbrev AreSimple : List (ℕ × Signature) → Type 0
 AreSimple [] = ⊤
 AreSimple (e ∷ es) = Simple e.0 e.1 × AreSimple es
 
-value_of : Option Signature → Signature
-value_of None = Unit
-value_of (Some s) = s
-
-is_there : Option Signature → Bool
-is_there None = false
-is_there (Some s) = true
-
 found : (es : List (ℕ × Signature)) → AreSimple es → (c : ℕ) (s : Signature) → find_letter c es ≡ Some s → Simple c s
-unfolding is_there value_of
-found [] all c s is = absurd (false≢true (ap is_there is))
+found [] all c s is = absurd (none-some s is)
 found (e ∷ es) all c s is = by_test (c == e.0) refl is (found es all.1 c s) where
   by_test : (b : Bool) → (c == e.0) ≡ b → (if b then Some e.1 else find_letter c es) ≡ Some s → (find_letter c es ≡ Some s → Simple c s) → Simple c s
-  by_test true same here more = subst (λ (d : ℕ). Simple d s) (sym (eqb-true c e.0 same)) (subst (λ (x : Signature). Simple e.0 x) (ap value_of here) all.0)
+  by_test true same here more = subst (λ (d : ℕ). Simple d s) (sym (eqb-true c e.0 same)) (subst (λ (x : Signature). Simple e.0 x) (same_Some e.1 s here) all.0)
   by_test false same here more = more here
 
 pub letter_simple : (c : ℕ) (s : Signature) → letter c ≡ Some s → Simple c s
-letter_simple c s is = found letters (simple_U8, (simple_Bool, (simple_I16, (simple_U16, (simple_I32, (simple_U32, (simple_I64, (simple_U64, (simple_F64, (simple_Str, (simple_Signature, (simple_ObjectPath, (simple_Variant, (simple_Fd, tt)))))))))))))) c s is
+letter_simple c s is =
+    found letters (
+      simple_U8,
+      (
+        simple_Bool,
+        (
+          simple_I16,
+          (
+            simple_U16,
+            (
+              simple_I32,
+              (
+                simple_U32,
+                (
+                  simple_I64,
+                  (simple_U64, (simple_F64, (simple_Str, (simple_Signature, (simple_ObjectPath, (simple_Variant, (simple_Fd, tt))))))),
+                ),
+              ),
+            ),
+          ),
+        ),
+      ),
+    ) c s is
 
 pub none_empty : (a p : ℕ) (bytes : List ℕ) → bytes ≡ [] → TakesNone a p bytes
 none_empty a p bytes is = record { none = λ s rest t. not_empty s a p t.complete rest (sym t.taken ∙ is) }
@@ -103,7 +120,12 @@ none_array_end a p bytes end = record { none = λ s rest t. by (behind_a a p byt
 
 pub some_array : (a p : ℕ) (bytes : List ℕ) (s : Signature) (rest : List ℕ) → (a ≡ 0 → ⊥) → Takes (a - 1) p bytes s rest → Takes a p (97 ∷ bytes) (Array s) rest
 some_array zero p bytes s rest ne t = absurd (ne refl)
-some_array (suc a) p bytes s rest ne t = record { complete = complete_array s a p ∙ subst (λ (n : ℕ). complete s n p ≡ true) (less_one (suc a) a refl) t.complete; taken = ap (λ (x : List ℕ). 97 ∷ x) t.taken ∙ sym (array_text (Array s) s refl rest) }
+some_array (suc a) p bytes s rest ne t =
+    record {
+      complete = complete_array s a p ∙ subst (λ (n : ℕ). complete s n p ≡ true) (less_one (suc a) a refl) t.complete;
+      taken = ap (λ (x : List ℕ). 97 ∷ x) t.taken ∙ sym
+          (array_text (Array s) s refl rest);
+    }
 
 pub none_array : (a p c : ℕ) (bytes more : List ℕ) → bytes ≡ c ∷ more → (c ≡ 123 → ⊥) → TakesNone (a - 1) p bytes → TakesNone a p (97 ∷ bytes)
 none_array a p c bytes more first not_brace none = record { none = λ s rest t. by (behind_a a p bytes s rest t) } where
@@ -149,7 +171,8 @@ pass_value a p bytes k r taken error.InvalidSignature none = record {
 }
 pass_value a p bytes k r taken error.OutOfMemory none = tt
 
-pub none_brace : (a p : ℕ) (bytes : List ℕ) (k : Signature) (r : List ℕ) (v : Signature) (w : List ℕ) → Takes (a - 1) p bytes k r → Takes (a - 1) p r v w → ((x : List ℕ) → w ≡ 125 ∷ x → ⊥) → TakesNone a p (97 ∷ 123 ∷ bytes)
+pub none_brace : (a p : ℕ) (bytes : List ℕ) (k : Signature) (r : List ℕ) (v : Signature) (w : List ℕ) → Takes (a - 1) p bytes k r → Takes (a - 1) p r v w → ((x : List ℕ) → w ≡ 125 ∷ x → ⊥)
+    → TakesNone a p (97 ∷ 123 ∷ bytes)
 none_brace a p bytes k r v w keyed valued no_end = record {
   none = λ s rest t.
       let it = behind_brace a p bytes s rest t in
@@ -158,10 +181,13 @@ none_brace a p bytes k r v w keyed valued no_end = record {
       no_end rest other.1;
 }
 
-pub some_dict : (a p : ℕ) (bytes : List ℕ) (k : Signature) (r : List ℕ) (v : Signature) (w rest : List ℕ) → 0 < a → Takes (a - 1) p bytes k r → Takes (a - 1) p r v w → w ≡ 125 ∷ rest → Takes a p (97 ∷ 123 ∷ bytes) (Dict k v) rest
+pub some_dict : (a p : ℕ) (bytes : List ℕ) (k : Signature) (r : List ℕ) (v : Signature) (w rest : List ℕ) → 0 < a → Takes (a - 1) p bytes k r → Takes (a - 1) p r v w → w ≡ 125 ∷ rest
+    → Takes a p (97 ∷ 123 ∷ bytes) (Dict k v) rest
 some_dict zero p bytes k r v w rest lt keyed valued end = absurd (omega (arith, lt))
 some_dict (suc a) p bytes k r v w rest lt keyed valued end = record {
-  complete = complete_dict k v a p ∙ and_from (complete k a p) (complete v a p) (subst (λ (n : ℕ). complete k n p ≡ true) (less_one (suc a) a refl) keyed.complete) (subst (λ (n : ℕ). complete v n p ≡ true) (less_one (suc a) a refl) valued.complete);
+  complete =
+      complete_dict k v a p ∙ and_from (complete k a p) (complete v a p) (subst (λ (n : ℕ). complete k n p ≡ true) (less_one (suc a) a refl) keyed.complete)
+      (subst (λ (n : ℕ). complete v n p ≡ true) (less_one (suc a) a refl) valued.complete);
   taken = ap (λ (x : List ℕ). 97 ∷ 123 ∷ x) (keyed.taken ∙ ap (λ (x : List ℕ). text k ++ x) (valued.taken ∙ ap (λ (x : List ℕ). text v ++ x) end)) ∙ sym (dict_text (Dict k v) k v refl rest);
 }
 
@@ -179,10 +205,18 @@ behind_paren a p bytes s rest t = by_front (front s a p t.complete) where
   by_front (simple d it) = absurd (no_letter d 40 s it (sym (heads (t.taken ∙ simple_text d s it rest))) refl)
   by_front (array b u is it cu) = absurd (true≢false (ap (λ (n : ℕ). n == 40) (heads (t.taken ∙ array_text s u it rest))))
   by_front (dict b k v is it ck cv) = absurd (true≢false (ap (λ (n : ℕ). n == 40) (heads (t.taken ∙ dict_text s k v it rest))))
-  by_front (structure q f fs is it cf) = record { depth = q; deeper = is; field = f; fields = fs; taken = record { complete = cf; taken = tails (t.taken ∙ structure_text s (f ∷ fs) it rest); stops = refl } }
+  by_front (structure q f fs is it cf) =
+      record { depth = q; deeper = is; field = f; fields = fs; taken = record { complete = cf; taken = tails (t.taken ∙ structure_text s (f ∷ fs) it rest); stops = refl } }
 
 pub all_only : (a p b q : ℕ) (bytes : List ℕ) (fs gs : List Signature) (r w : List ℕ) → TakesAll a p bytes fs r → TakesAll b q bytes gs w → (fs ≡ gs) × (r ≡ w)
 all_only a p b q bytes fs gs r w x y = only_types fs a p b q gs r w x.complete y.complete x.stops y.stops (sym x.taken ∙ y.taken)
+
+-- where no type was read before
+pub behind_none : (P : List ℕ → Type 0) (types : List Signature) (bytes : List ℕ) → types ≡ [] → P (texts types ++ bytes) → P bytes
+behind_none P types bytes none = subst (λ (ts : List Signature). P (texts ts ++ bytes)) none
+
+pub behind_none_taken : {types fs : List Signature} {a p : ℕ} {bytes r : List ℕ} → types ≡ [] → TakesAll a p (texts types ++ bytes) fs r → TakesAll a p bytes fs r
+behind_none_taken {types} {fs} {a} {p} {bytes} {r} none = behind_none (λ (x : List ℕ). TakesAll a p x fs r) types bytes none
 
 pub none_structure_0 : (a p : ℕ) (bytes : List ℕ) → p ≡ 0 → TakesNone a p (40 ∷ bytes)
 none_structure_0 a p bytes zero_p = record { none = λ s rest t. let it = behind_paren a p bytes s rest t in not_suc it.depth (sym zero_p ∙ it.deeper) }
@@ -209,12 +243,15 @@ none_fields a p bytes fs r taken end = record {
       no_cons (sym end ∙ (all_only a (p - 1) a it.depth bytes fs (it.field ∷ it.fields) r (41 ∷ rest) taken it.taken).0);
 }
 
-pub some_structure : (a p : ℕ) (bytes : List ℕ) (fs : List Signature) (c : ℕ) (r rest : List ℕ) → (p ≡ 0 → ⊥) → TakesAll a (p - 1) bytes fs r → r ≡ c ∷ rest → (fs ≡ [] → ⊥) → Takes a p (40 ∷ bytes) (Structure fs) rest
+pub some_structure : (a p : ℕ) (bytes : List ℕ) (fs : List Signature) (c : ℕ) (r rest : List ℕ) → (p ≡ 0 → ⊥) → TakesAll a (p - 1) bytes fs r → r ≡ c ∷ rest → (fs ≡ [] → ⊥)
+    → Takes a p (40 ∷ bytes) (Structure fs) rest
 some_structure a zero bytes fs c r rest ne taken first some = absurd (ne refl)
 some_structure a (suc p) bytes [] c r rest ne taken first some = absurd (some refl)
 some_structure a (suc p) bytes (f ∷ fs) c r rest ne taken first some = record {
   complete = complete_structure f fs a p ∙ all_complete (f ∷ fs) a p (subst (λ (n : ℕ). AreComplete a n (f ∷ fs)) (less_one (suc p) p refl) taken.complete);
-  taken = ap (λ (x : List ℕ). 40 ∷ x) (taken.taken ∙ ap (λ (x : List ℕ). texts (f ∷ fs) ++ x) (first ∙ ap (λ (n : ℕ). n ∷ rest) (subst Stops first taken.stops))) ∙ sym (structure_text (Structure (f ∷ fs)) (f ∷ fs) refl rest);
+  taken =
+      ap (λ (x : List ℕ). 40 ∷ x) (taken.taken ∙ ap (λ (x : List ℕ). texts (f ∷ fs) ++ x) (first ∙ ap (λ (n : ℕ). n ∷ rest) (subst Stops first taken.stops))) ∙ sym
+      (structure_text (Structure (f ∷ fs)) (f ∷ fs) refl rest);
 }
 
 -- a list of types that goes on behind those that were taken
@@ -230,23 +267,21 @@ goes_on (f ∷ fs) [] a p b q r w cf cg sw nr e = absurd (no_stop f a p cf.0 (te
 goes_on (f ∷ fs) (g ∷ gs) a p b q r w cf cg sw nr e =
     goes_on fs gs a p b q r w cf.1 cg.1 sw nr (only f a p g b q (texts fs ++ r) (texts gs ++ w) cf.0 cg.0 (sym (append_assoc (text f) (texts fs) r) ∙ e ∙ append_assoc (text g) (texts gs) w)).1
 
-pub pass_types : (a p : ℕ) (bytes : List ℕ) (fs : List Signature) (r : List ℕ) → AreComplete a p fs → bytes ≡ texts fs ++ r → (Stops r → ⊥) → (e : Error) → Took a p r (Err e) → TookAll a p bytes (Err e)
+pub pass_types : (a p : ℕ) (bytes : List ℕ) (fs : List Signature) (r : List ℕ) → AreComplete a p fs → bytes ≡ texts fs ++ r → (Stops r → ⊥) → (e : Error) → Took a p r (Err e)
+    → TookAll a p bytes (Err e)
 pass_types a p bytes fs r cf is nr error.InvalidSignature none = record {
   none = λ gs w t.
       let on = goes_on fs gs a p a p r w cf t.complete t.stops nr (sym is ∙ t.taken) in none.none on.one on.behind on.taken;
 }
 pass_types a p bytes fs r cf is nr error.OutOfMemory none = tt
 
-more_complete : (a p : ℕ) (fs : List Signature) (s : Signature) → AreComplete a p fs → complete s a p ≡ true → AreComplete a p (fs ++ s ∷ [])
-more_complete a p [] s cf cs = (cs, tt)
-more_complete a p (f ∷ fs) s cf cs = (cf.0, more_complete a p fs s cf.1 cs)
-
 more_texts : (fs : List Signature) (s : Signature) (r : List ℕ) → texts fs ++ (text s ++ r) ≡ texts (fs ++ s ∷ []) ++ r
 more_texts [] s r = ap (λ (x : List ℕ). x ++ r) (sym (append-nil (text s)))
 more_texts (f ∷ fs) s r = append_assoc (text f) (texts fs) (text s ++ r) ∙ ap (λ (x : List ℕ). text f ++ x) (more_texts fs s r) ∙ sym (append_assoc (text f) (texts (fs ++ s ∷ [])) r)
 
-pub one_more : (a p : ℕ) (bytes : List ℕ) (fs : List Signature) (r : List ℕ) (s : Signature) (w : List ℕ) → AreComplete a p fs → bytes ≡ texts fs ++ r → Takes a p r s w → AreComplete a p (fs ++ s ∷ []) × (bytes ≡ texts (fs ++ s ∷ []) ++ w)
-one_more a p bytes fs r s w cf is t = (more_complete a p fs s cf t.complete, is ∙ ap (λ (x : List ℕ). texts fs ++ x) t.taken ∙ more_texts fs s w)
+pub one_more : (a p : ℕ) (bytes : List ℕ) (fs : List Signature) (r : List ℕ) (s : Signature) (w : List ℕ) → AreComplete a p fs → bytes ≡ texts fs ++ r → Takes a p r s w
+    → AreComplete a p (fs ++ s ∷ []) × (bytes ≡ texts (fs ++ s ∷ []) ++ w)
+one_more a p bytes fs r s w cf is t = (complete_one_more fs a p s cf t.complete, is ∙ ap (λ (x : List ℕ). texts fs ++ x) t.taken ∙ more_texts fs s w)
 
 -- a reader comes forward
 behind_some : (x rest bytes : List ℕ) → bytes ≡ x ++ rest → (x ≡ [] → ⊥) → length rest < length bytes
@@ -262,10 +297,47 @@ read_none bytes error.InvalidSignature none = record { none = λ s t. none.none 
 read_none bytes error.OutOfMemory none = tt
 
 pub read_more : (bytes : List ℕ) (fs : List Signature) (r : List ℕ) → TakesAll 32 32 bytes fs r → (r ≡ [] → ⊥) → SpellsNone bytes
-read_more bytes fs r taken some = record { none = λ s t. some (all_only 32 32 32 32 bytes fs t.types r [] taken (record { complete = t.complete; taken = t.spelled ∙ sym (append-nil (texts t.types)); stops = tt })).1 }
+read_more bytes fs r taken some =
+    record { none = λ s t. some (all_only 32 32 32 32 bytes fs t.types r [] taken (record { complete = t.complete; taken = t.spelled ∙ sym (append-nil (texts t.types)); stops = tt })).1 }
 
 pub read_all : (bytes : List ℕ) (fs : List Signature) (r : List ℕ) → TakesAll 32 32 bytes fs r → r ≡ [] → Spells bytes (whole fs)
 read_all bytes fs r taken end = record { types = fs; complete = taken.complete; is = refl; spelled = taken.taken ∙ ap (λ (x : List ℕ). texts fs ++ x) end ∙ append-nil (texts fs) }
+
+-- the top, by its first type: nothing, that one alone, or others behind it
+pub top_none : (bytes : List ℕ) → (bytes ≡ [] → ⊥) → (e : Error) → Took 32 32 bytes (Err e) → Read bytes (Err e)
+top_none bytes some error.InvalidSignature none = record { none = λ s t. by t.types t.complete t.spelled } where
+  by : (types : List Signature) → AreComplete 32 32 types → bytes ≡ texts types → ⊥
+  by [] all spelled = some spelled
+  by (s ∷ more) all spelled = none.none s (texts more) (record { complete = all.0; taken = spelled })
+top_none bytes some error.OutOfMemory none = tt
+
+pub top_one : (bytes : List ℕ) (s : Signature) (r : List ℕ) → Takes 32 32 bytes s r → r ≡ [] → Spells bytes s
+top_one bytes s r t end = record { types = s ∷ []; complete = (t.complete, tt); is = refl; spelled = t.taken ∙ ap (λ (x : List ℕ). text s ++ x) end }
+
+pub the_first : (types before : List Signature) (s : Signature) → before ≡ [] → types ≡ before ++ s ∷ [] → types ≡ s ∷ []
+the_first types before s empty is = is ∙ ap (λ (ts : List Signature). ts ++ s ∷ []) empty
+
+top_front : (bytes : List ℕ) (s : Signature) (r : List ℕ) (types : List Signature) → types ≡ s ∷ [] → Takes 32 32 bytes s r → texts types ++ r ≡ bytes
+top_front bytes s r types is t = ap (λ (ts : List Signature). texts ts ++ r) is ∙ ap (λ (x : List ℕ). x ++ r) (append-nil (text s)) ∙ sym t.taken
+
+pub others_none : (bytes : List ℕ) (s : Signature) (r : List ℕ) (types : List Signature) → types ≡ s ∷ [] → Takes 32 32 bytes s r → (e : Error) → TookAll 32 32 (texts types ++ r) (Err e)
+    → Read bytes (Err e)
+others_none bytes s r types is t e none = read_none bytes e (subst (λ (x : List ℕ). TookAll 32 32 x (Err e)) (top_front bytes s r types is t) none)
+
+pub others_taken : (bytes : List ℕ) (s : Signature) (r : List ℕ) (types : List Signature) → types ≡ s ∷ [] → Takes 32 32 bytes s r → (fs : List Signature) (w : List ℕ)
+    → TakesAll 32 32 (texts types ++ r) fs w → TakesAll 32 32 bytes fs w
+others_taken bytes s r types is t fs w all = subst (λ (x : List ℕ). TakesAll 32 32 x fs w) (top_front bytes s r types is t) all
+
+whole_two : (fs : List Signature) (s : Signature) (r bytes : List ℕ) → Takes 32 32 bytes s r → AreComplete 32 32 fs → bytes ≡ texts fs → (r ≡ [] → ⊥) → whole fs ≡ Structure fs
+whole_two [] s r bytes t all spelled some = absurd (not_empty s 32 32 t.complete r (sym t.taken ∙ spelled))
+whole_two (f ∷ []) s r bytes t all spelled some = absurd (some (only s 32 32 f 32 32 r [] t.complete all.0 (sym t.taken ∙ spelled)).1)
+whole_two (f ∷ g ∷ more) s r bytes t all spelled some = refl
+
+pub others_all : (bytes : List ℕ) (s : Signature) (r : List ℕ) (fs : List Signature) (w : List ℕ) → Takes 32 32 bytes s r → TakesAll 32 32 bytes fs w → w ≡ [] → (r ≡ [] → ⊥)
+    → Spells bytes (Structure fs)
+others_all bytes s r fs w t all end some =
+    let spelled : bytes ≡ texts fs = all.taken ∙ ap (λ (x : List ℕ). texts fs ++ x) end ∙ append-nil (texts fs) in
+    record { types = fs; complete = all.complete; is = sym (whole_two fs s r bytes t all.complete spelled some); spelled = spelled }
 
 -- a text spells one signature at most
 pub spells_one : (bytes : List ℕ) (s t : Signature) → Spells bytes s → Spells bytes t → s ≡ t

@@ -27,10 +27,12 @@ strips_not_at xs i x bytes behind within is first none = λ rest it.
     (sym first ∙ it ∙ ap (λ (r : List ℕ). r ++ rest) cut.1 ∙ append_assoc (texts (take i xs)) (text x ++ cut.0) rest ∙ ap (λ (r : List ℕ). texts (take i xs) ++ r) (append_assoc (text x) cut.0 rest)))
 
 pub strips_piece : (piece bytes : List ℕ) (o : Option (Bor (List ℕ)))
-    → MatchOption o (pointwise nat_eq (take (length piece) bytes) piece ≡ false) (λ x. (pointwise nat_eq (take (length piece) bytes) piece ≡ true) × (x.now ≡ drop (length piece) bytes) × (length x.now + length piece ≡ length bytes))
+    → MatchOption o (pointwise nat_eq (take (length piece) bytes) piece ≡ false)
+    (λ x. (pointwise nat_eq (take (length piece) bytes) piece ≡ true) × (x.now ≡ drop (length piece) bytes) × (length x.now + length piece ≡ length bytes))
     → Stripped piece bytes o
 strips_piece piece bytes (Some rest) found =
-    sym (take-append-drop (length piece) bytes) ∙ ap (λ (r : List ℕ). r ++ drop (length piece) bytes) (same_text (take (length piece) bytes) piece (sym found.0)) ∙ ap (λ (r : List ℕ). piece ++ r) (sym found.1)
+    sym (take-append-drop (length piece) bytes) ∙ ap (λ (r : List ℕ). r ++ drop (length piece) bytes) (same_text (take (length piece) bytes) piece (sym found.0)) ∙ ap (λ (r : List ℕ). piece ++ r)
+    (sym found.1)
 strips_piece piece bytes None other = λ rest is. other_text (take (length piece) bytes) piece (sym other) (ap (take (length piece)) is ∙ take-append_seam piece rest)
 
 pub behind : (a b bytes first second : List ℕ) → bytes ≡ a ++ first → first ≡ b ++ second → bytes ≡ (a ++ b) ++ second

@@ -1,5 +1,5 @@
 -- The text of each former, and the texts of a list cut in two.
-use Rattle.std.proofs.Common.{◌≡◌, ℕ, ◌+◌, ◌<◌, ◌≤◌, zero, suc, List, [], ◌∷◌, ◌++◌, length, get_or, take, map, refl, sym, ap, ◌∙◌, append_assoc, arith}
+use Rattle.std.proofs.Common.{◌≡◌, ℕ, ◌+◌, ◌<◌, ◌≤◌, zero, suc, List, [], ◌∷◌, ◌++◌, length, get_or, take, map, sym, ap, ◌∙◌, append_assoc, arith}
 use Rattle.std.specs.Prelude.{codes}
 use Rattle.std.specs.List.{concat}
 use Rattle.std.proofs.lemmas.List.{take_more, take_all, map_push, append-nil, length-append}
@@ -26,7 +26,9 @@ concat_push (y ∷ xs) x = ap (λ (r : List ℕ). y ++ r) (concat_push xs x) ∙
 
 -- one more of a list's signatures
 pub texts_more : (xs : List Signature) (i : ℕ) (x : Signature) → i < length xs → x ≡ get_or xs i x → texts (take i xs) ++ text x ≡ texts (take (i + 1) xs)
-texts_more xs i x within is = sym (concat_push (map text (take i xs)) (text x)) ∙ ap concat (sym (map_push text (take i xs) x) ∙ ap (map text) (ap (λ (y : Signature). take i xs ++ y ∷ []) is ∙ sym (take_more xs i x within)))
+texts_more xs i x within is =
+    sym (concat_push (map text (take i xs)) (text x)) ∙ ap concat
+    (sym (map_push text (take i xs) x) ∙ ap (map text) (ap (λ (y : Signature). take i xs ++ y ∷ []) is ∙ sym (take_more xs i x within)))
 
 pub fields_more : (front : List ℕ) (xs : List Signature) (i : ℕ) (x : Signature) → i < length xs → x ≡ get_or xs i x
     → (front ++ texts (take i xs)) ++ text x ≡ front ++ texts (take (i + 1) xs)

@@ -1,32 +1,24 @@
 -- A text is the text of one complete type, and of one list of them.
-use Rattle.std.proofs.Common.{◌≡◌, ℕ, ◌==◌, zero, suc, Bool, true, false, List, [], ◌∷◌, ◌++◌, map, Option, Some, None, refl, sym, ap, ◌∙◌, subst, append_assoc}
+use Rattle.std.proofs.Common.{◌≡◌, ℕ, ◌==◌, zero, suc, true, List, [], ◌∷◌, ◌++◌, map, Some, None, refl, sym, ap, ◌∙◌, subst, append_assoc}
 use Rattle.std.proofs.lemmas.Bool.{false≢true, true≢false, and_parts}
+use Rattle.std.proofs.lemmas.Option.{none-some, same_Some}
 use Rattle.bus_signature.specs.declared.signature.Signature.{Signature}
-use Rattle.bus_signature.specs.declared.signature.Signature.TheVariants.{Unit, Array, Dict, Structure}
+use Rattle.bus_signature.specs.declared.signature.Signature.TheVariants.{Array, Dict, Structure}
 use Rattle.bus_signature.specs.Texts.{text, texts}
 use Rattle.bus_signature.specs.Grammar.{complete, AreComplete}
 use Rattle.bus_signature.specs.Taking.{letter, Stops}
-use Rattle.bus_signature.proofs.Cases.{Simple, induct, opens, complete_unit, complete_array_0, complete_array, complete_dict_0, complete_dict, complete_structure_0, complete_structure_empty, complete_structure}
+use Rattle.bus_signature.proofs.Cases.{Simple, induct, opens, complete_unit, complete_array_0, complete_array, complete_dict_0, complete_dict, complete_structure_0, complete_structure_empty}
+use Rattle.bus_signature.proofs.Cases.{complete_structure}
 use Rattle.bus_signature.proofs.Fronts.{Front, simple, array, dict, structure, front, simple_text, array_text, dict_text, structure_text, heads, tails, first_opens, not_empty, are_complete}
 
 abbrev IsOnly : Signature → Type 0
 IsOnly s = (a p : ℕ) (t : Signature) (b q : ℕ) (r w : List ℕ) → complete s a p ≡ true → complete t b q ≡ true → text s ++ r ≡ text t ++ w → (s ≡ t) × (r ≡ w)
 
-is_none : Option Signature → Bool
-is_none None = true
-is_none (Some s) = false
-
-the_letter : Option Signature → Signature
-the_letter None = Unit
-the_letter (Some s) = s
-
 pub no_letter : (c d : ℕ) (s : Signature) → Simple c s → c ≡ d → letter d ≡ None → ⊥
-unfolding is_none
-no_letter c d s is e none = false≢true (ap is_none (sym (subst (λ x. letter x ≡ Some s) e is.letter) ∙ none))
+no_letter c d s is e none = none-some s (sym none ∙ subst (λ x. letter x ≡ Some s) e is.letter)
 
 pub same_letter : (c d : ℕ) (s t : Signature) → Simple c s → Simple d t → c ≡ d → s ≡ t
-unfolding the_letter
-same_letter c d s t is other e = ap the_letter (sym (subst (λ x. letter x ≡ Some s) e is.letter) ∙ other.letter)
+same_letter c d s t is other e = same_Some s t (sym (subst (λ x. letter x ≡ Some s) e is.letter) ∙ other.letter)
 
 only_simple : (c : ℕ) (s : Signature) → Simple c s → IsOnly s
 only_simple c s is a p t b q r w _ ct e = by_front (front t b q ct) where

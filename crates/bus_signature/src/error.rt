@@ -44,6 +44,14 @@ impl From<OutOfMemory> for Error {
 #[error("Invalid signature")]
 pub struct InvalidSignature;
 
+impl From<InvalidSignature> for Error {
+    ghost from_gives = { λ _ e. e ≡ error.InvalidSignature };
+
+    fn from(_error: InvalidSignature) -> Error {
+        Error::InvalidSignature
+    }
+}
+
 /// There is not enough memory.
 #[derive(Clone, Copy, Debug, PartialEq, Eq, thiserror::Error)]
 #[error("out of memory")]

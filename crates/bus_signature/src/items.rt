@@ -38,6 +38,13 @@ impl<T> Items<T> {
         Items { values }
     }
 
+    /// Gives the values back as a `Vec`.
+    pub fn into_vec(self) -> Vec<T>
+        ensures { result.items ≡ self }
+    {
+        self.values
+    }
+
     /// Takes over the values of an array.
     pub fn from_array<const N: usize>(
         alloc: Global,
@@ -112,6 +119,26 @@ impl<T: Drop> Items<T> {
     {
         self.values.push(value)?;
         Ok(())
+    }
+}
+
+impl<T> From<Vec<T>> for Items<T> {
+    ghost from_gives = { λ values owner. owner ≡ values.items };
+
+    fn from(values: Vec<T>) -> Items<T> {
+        Items::from_vec(values)
+    }
+}
+
+impl<'a, T> IntoIterator for &'a Items<T> {
+    type Item = &'a T;
+
+    type IntoIter = slice::Iter<'a, T>;
+
+    ghost into_iter_gives = { λ owner items. iter_rest items ≡ owner.now };
+
+    fn into_iter(self) -> slice::Iter<'a, T> {
+        self.iter()
     }
 }
 

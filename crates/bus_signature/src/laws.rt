@@ -1,7 +1,7 @@
 //! What holds of signatures beyond single calls: equality, order, hashes, and reading back what was printed.
 
-ghost use Rattle.std.specs.Prelude.{◌≡◌, ◌↔◌, IsTrue, fold};
-ghost use Rattle.std.specs.declared.cmp.Ordering.{Ordering};
+ghost use Rattle.std.specs.Prelude.{◌≡◌, ◌↔◌, IsTrue, Some, fold};
+ghost use Rattle.std.specs.declared.cmp.Ordering.TheVariants.{Equal};
 ghost use Rattle.bus_signature.specs.declared.signature.Signature.{Signature};
 ghost use Rattle.bus_signature.specs.Grammar.{complete, AreComplete, IsReadable, ReadAs};
 ghost use Rattle.bus_signature.specs.Feeding.{feed};
@@ -14,23 +14,36 @@ use std::alloc::Global;
 use std::cmp::Ordering;
 use std::hash::{Hash, Hasher};
 
-/// `==`: two signatures are equal exactly where they are one value.
+/// `==` is `PartialEq`'s own test, and says true exactly for one value.
 pub fn are_equal(a: &Signature, b: &Signature) -> bool
-    ensures { IsTrue result ↔ (a.now ≡ b.now) }
+    ensures own { result ≡ ⟦<Signature as PartialEq>⟧.eq a.now b.now }
+    ensures value { IsTrue result ↔ (a.now ≡ b.now) }
 {
     *a == *b
 }
 
-/// The order: total, by kind and then by what is inside, and `Equal` exactly for one value.
+/// `Ord`'s own order: total, by kind and then by what is inside, and `Equal` exactly where `==` holds.
 pub fn order(a: &Signature, b: &Signature) -> Ordering
-    ensures { (by : (s t : Signature) → Ordering) × IsSignatureOrder by × (result ≡ by a.now b.now) }
+    ensures own { result ≡ ⟦<Signature as Ord>⟧.cmp a.now b.now }
+    ensures order { IsSignatureOrder ⟦<Signature as Ord>⟧.cmp }
+    ensures equal { (s t : Signature) →
+        (⟦<Signature as Ord>⟧.cmp s t ≡ Equal) ↔ IsTrue (⟦<Signature as PartialEq>⟧.eq s t) }
 {
     a.cmp(b)
 }
 
-/// Feeds two signatures to two hashers: each its own, the number of its kind and then what is inside. So equal signatures take
-/// hashers in one state to one state.
+/// `PartialOrd` answers what `Ord` does.
+pub fn partial_order(a: &Signature, b: &Signature) -> Option<Ordering>
+    ensures own { result ≡ ⟦<Signature as PartialOrd>⟧.partial_cmp a.now b.now }
+    ensures order { result ≡ Some (⟦<Signature as Ord>⟧.cmp a.now b.now) }
+{
+    a.partial_cmp(b)
+}
+
+/// `Hash`'s own writes: the number of the signature's kind, and then what is inside. So equal signatures take hashers in
+/// one state to one state.
 pub fn hash_both<H: Hasher>(a: &Signature, b: &Signature, first: &mut H, second: &mut H)
+    ensures own { (s : Signature) → ⟦<Signature as Hash>⟧.hash_input s ≡ feed s }
     ensures first { first.new ≡ fold H.write first.old (feed a.now) }
     ensures second { second.new ≡ fold H.write second.old (feed b.now) }
     ensures alike { a.now ≡ b.now → first.old ≡ second.old → first.new ≡ second.new }

@@ -1,10 +1,10 @@
 //! Signatures read from text (D-Bus specification, Type System).
 
-ghost use Rattle.std.specs.Prelude.{◌≡◌, ◌∷◌, ◌<◌, ◌↔◌, IfOk, IsTrue};
+ghost use Rattle.std.specs.Prelude.{◌≡◌, ◌∷◌, ◌++◌, ◌<◌, ◌↔◌, IfOk, IsTrue, None};
 ghost use Rattle.bus_signature.specs.declared.signature.Signature.{Signature};
-ghost use Rattle.bus_signature.specs.Texts.{text as printed};
+ghost use Rattle.bus_signature.specs.Texts.{text as printed, texts};
 ghost use Rattle.bus_signature.specs.Measures.{Fits};
-ghost use Rattle.bus_signature.specs.Grammar.{whole, Spells, Read, ReadAs, IsReadable};
+ghost use Rattle.bus_signature.specs.Grammar.{AreComplete, Spells, Read, ReadAs, IsReadable};
 ghost use Rattle.bus_signature.specs.Taking.{letter, Took, TookAll, Stops};
 
 use crate::error::Error;
@@ -47,8 +47,10 @@ pub(crate) fn stops(bytes: &[u8]) -> bool
     }
 }
 
-// One complete type at the front of the bytes, and what follows it.
+// One complete type at the front of the bytes, and what follows it. Most types are one letter, and this reads those
+// without a call.
 #[cycle(reading)]
+#[inline(always)]
 fn read_type(
     alloc: Global,
     arrays: usize,
@@ -60,13 +62,29 @@ fn read_type(
     let Some((first, rest)) = bytes.split_first() else {
         return Err(Error::InvalidSignature);
     };
-    match *first {
-        b'a' => read_array(alloc, arrays, structures, rest),
-        b'(' => read_structure(alloc, arrays, structures, rest),
-        byte => match simple(byte) {
-            Some(signature) => Ok((signature, rest)),
-            None => Err(Error::InvalidSignature),
-        },
+    match simple(*first) {
+        Some(signature) => Ok((signature, rest)),
+        None => read_container(alloc, arrays, structures, *first, rest),
+    }
+}
+
+// An array, a dictionary or a structure, behind its first byte.
+#[cycle(reading)]
+#[inline(never)]
+fn read_container(
+    alloc: Global,
+    arrays: usize,
+    structures: usize,
+    first: u8,
+    bytes: &[u8],
+) -> Result<(Signature, &[u8]), Error>
+    requires { letter first ≡ None }
+    ensures { Took arrays structures (first ∷ bytes.now) result }
+{
+    match first {
+        b'a' => read_array(alloc, arrays, structures, bytes),
+        b'(' => read_structure(alloc, arrays, structures, bytes),
+        _ => Err(Error::InvalidSignature),
     }
 }
 
@@ -130,7 +148,7 @@ fn read_structure(
     if structures == 0 {
         return Err(Error::InvalidSignature);
     }
-    let (fields, rest) = read_types(alloc, arrays, structures - 1, bytes)?;
+    let (fields, rest) = read_types(alloc, arrays, structures - 1, Fields::new(alloc), bytes)?;
     let Some((_, rest)) = rest.split_first() else {
         return Err(Error::InvalidSignature);
     };
@@ -140,17 +158,18 @@ fn read_structure(
     Ok((Signature::Structure(fields), rest))
 }
 
-// The complete types up to the end or a closing parenthesis, and what follows them.
+// The complete types up to the end or a closing parenthesis, behind those that were read before, and what follows them.
 #[cycle(reading)]
 fn read_types(
     alloc: Global,
     arrays: usize,
     structures: usize,
+    mut types: Fields,
     bytes: &[u8],
 ) -> Result<(Fields, &[u8]), Error>
-    ensures { TookAll arrays structures bytes.now result }
+    requires { AreComplete arrays structures types }
+    ensures { TookAll arrays structures (texts types ++ bytes.now) result }
 {
-    let mut types = Fields::new(alloc);
     let mut rest = bytes;
     while !stops(rest) {
         let (one, after) = read_type(alloc, arrays, structures, rest)?;
@@ -160,28 +179,24 @@ fn read_types(
     Ok((types, rest))
 }
 
-// What these types are at the top.
-fn whole_of(mut types: Fields) -> Signature
-    ensures { result ≡ whole types }
-{
-    if types.len() >= 2 {
-        return Signature::Structure(types);
-    }
-    match types.pop() {
-        Some(one) => one,
-        None => Signature::Unit,
-    }
-}
-
-// The signature that the bytes spell.
+// The signature that the bytes spell. One type alone takes no vector.
 fn read(alloc: Global, bytes: &[u8]) -> Result<Signature, Error>
     ensures { Read bytes.now result }
 {
-    let (types, rest) = read_types(alloc, MAX_DEPTH, MAX_DEPTH, bytes)?;
+    if bytes.is_empty() {
+        return Ok(Signature::Unit);
+    }
+    let (first, others) = read_type(alloc, MAX_DEPTH, MAX_DEPTH, bytes)?;
+    if others.is_empty() {
+        return Ok(first);
+    }
+    let mut types = Fields::new(alloc);
+    types.push(first)?;
+    let (types, rest) = read_types(alloc, MAX_DEPTH, MAX_DEPTH, types, others)?;
     if !rest.is_empty() {
         return Err(Error::InvalidSignature);
     }
-    Ok(whole_of(types))
+    Ok(Signature::Structure(types))
 }
 
 impl Signature {

@@ -147,9 +147,30 @@ fn both_printed_forms_are_equal_texts(rt: HostRuntime) -> Result<(), Fail> {
         format!(in rt.alloc(); "{two}, {}", Format::DBus)?.as_str(),
         "(xs), D-Bus"
     );
+    Ok(())
+}
+
+#[test]
+fn errors_are_printed(rt: HostRuntime) -> Result<(), Fail> {
+    let alloc = rt.alloc();
+    let Err(refused) = validate(b"a{sv") else {
+        return Err("an open dictionary is accepted".into());
+    };
     assert_eq!(rt;
-        format!(in rt.alloc(); "{}", Error::InvalidSignature)?.as_str(),
+        format!(in alloc; "{refused}")?.as_str(),
         "Invalid signature"
+    );
+    assert_eq!(rt;
+        format!(in alloc; "{}", Error::from(refused))?.as_str(),
+        "Invalid signature"
+    );
+    assert_eq!(rt;
+        format!(in alloc; "{OutOfMemory}")?.as_str(),
+        "out of memory"
+    );
+    assert_eq!(rt;
+        format!(in alloc; "{}", Error::OutOfMemory)?.as_str(),
+        "out of memory"
     );
     Ok(())
 }
@@ -171,10 +192,11 @@ fn signatures_are_built_of_others(rt: HostRuntime) -> Result<(), Fail> {
     assert!(rt; !fields.is_empty());
     assert!(rt; fields.get(1).is_some_and(|field| field.eq_text("h")) && fields.get(2).is_none());
     let mut letters = String::new(alloc);
-    for field in fields.iter() {
+    for field in &fields {
         field.write_as_string_no_parens(&mut letters)?;
     }
     assert_eq!(rt; letters.as_str(), "yh");
+    assert!(rt; Fields::from(fields.into_vec()).iter().len() == 2);
     Ok(())
 }
 
@@ -189,6 +211,7 @@ fn laws_hold_of_read_signatures(rt: HostRuntime) -> Result<(), Fail> {
         let next = signature(&rt, text)?;
         if place > 0 {
             assert!(rt; laws::order(&last, &next).is_lt() && laws::order(&next, &last).is_gt());
+            assert!(rt; laws::partial_order(&last, &next) == Some(laws::order(&last, &next)));
         }
         let again = next.duplicate(rt.alloc())?;
         assert!(rt; laws::are_equal(&next, &again) && laws::order(&next, &again).is_eq());

@@ -1,6 +1,6 @@
 //! Signatures checked without memory.
 
-ghost use Rattle.std.specs.Prelude.{◌≡◌, ◌∷◌, ◌<◌, is_some};
+ghost use Rattle.std.specs.Prelude.{◌≡◌, ◌∷◌, ◌<◌, false, is_some};
 ghost use Rattle.bus_signature.specs.Taking.{letter, Skipped, SkippedAll};
 ghost use Rattle.bus_signature.specs.Grammar.{Validated};
 
@@ -13,23 +13,33 @@ fn is_letter(byte: u8) -> bool
     simple(byte).is_some()
 }
 
-// What follows the complete type at the front of the bytes.
+// What follows the complete type at the front of the bytes. Most types are one letter, and this skips those without a
+// call.
 #[cycle(skipping)]
+#[inline(always)]
 fn skip_type(arrays: usize, structures: usize, bytes: &[u8]) -> Option<&[u8]>
     ensures { Skipped arrays structures bytes.now result }
 {
     let Some((first, rest)) = bytes.split_first() else {
         return None;
     };
-    match *first {
-        b'a' => skip_array(arrays, structures, rest),
-        b'(' => skip_structure(arrays, structures, rest),
-        byte => {
-            if !is_letter(byte) {
-                return None;
-            }
-            Some(rest)
-        }
+    if is_letter(*first) {
+        return Some(rest);
+    }
+    skip_container(arrays, structures, *first, rest)
+}
+
+// What follows an array, a dictionary or a structure, behind its first byte.
+#[cycle(skipping)]
+#[inline(never)]
+fn skip_container(arrays: usize, structures: usize, first: u8, bytes: &[u8]) -> Option<&[u8]>
+    requires { is_some (letter first) ≡ false }
+    ensures { Skipped arrays structures (first ∷ bytes.now) result }
+{
+    match first {
+        b'a' => skip_array(arrays, structures, bytes),
+        b'(' => skip_structure(arrays, structures, bytes),
+        _ => None,
     }
 }
 

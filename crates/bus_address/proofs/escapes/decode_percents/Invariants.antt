@@ -1,6 +1,5 @@
 use Rattle.std.proofs.Common.{◌≡◌, length}
-use Rattle.bus_address.specs.Escapes.{unescaped}
-use Rattle.bus_address.proofs.EscapeLemmas.{with_front}
+use Rattle.bus_address.specs.Escapes.{unescaped, with_front}
 use Rattle.bus_address.proofs.escapes.decode_percents.Given as goal
 
 abbrev pub invariant-loop-first : goal.invariant-loop-first

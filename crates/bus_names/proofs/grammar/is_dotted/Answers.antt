@@ -1,20 +1,25 @@
-use Rattle.std.proofs.Common.{rules, refl}
-use Rattle.bus_names.proofs.GrammarLemmas.{rest-byte_at, rest-dot_at}
+use Rattle.std.proofs.Common.{◌≡◌, ◌==◌, ◌∷◌, false, drop, length, rules, refl}
+use Rattle.std.proofs.lemmas.List.{nil_from_length}
+use Rattle.bus_names.specs.Classes.{element_len}
+use Rattle.bus_names.proofs.GrammarLemmas.{rest-end, rest-more}
 use Rattle.bus_names.proofs.grammar.is_dotted.Goals as goal
-use Rattle.bus_names.proofs.grammar.is_dotted.Goals.{then-byte-eq46+else-not-is_inside, else-byte-eq46+else-not-fits}
 
-pub returns-then-not-fits : goal.returns-then-not-fits
-returns-then-not-fits c =
-    let step = rest-byte_at c.args.form c.loop-byte.has_dot c.loop-byte.is_inside c.args.text.now c.loop-byte.byte-index c.loop-byte-test.true (search rules) in
-    rw (c.loop-byte.invariant, step, ← c.fits.ensures, c.if-not-fits.true) refl
+pub returns-in-None : goal.returns-in-None
+returns-in-None c =
+    let some : (element_len c.args.form c.loop-rest.rest.now == 0) ≡ false = search rules in
+    let cut : c.split_at.result.1.now ≡ drop (element_len c.args.form c.loop-rest.rest.now) c.loop-rest.rest.now = search rules in
+    let none : length c.split_at.result.1.now ≡ 0 = search rules in
+    let left = nil_from_length (drop (element_len c.args.form c.loop-rest.rest.now) c.loop-rest.rest.now) (rw (← cut) none) in
+    rw (c.loop-rest.invariant, rest-end c.args.form c.loop-rest.has_dot c.loop-rest.rest.now some left) refl
 
-pub loop-byte-preserved : goal.loop-byte-preserved
-loop-byte-preserved c =
-    elim c.if-byte-eq46.branch [
-      | then-byte-eq46+else-not-is_inside w ↦
-          let step = rest-dot_at c.args.form c.loop-byte.has_dot c.loop-byte.is_inside c.args.text.now c.loop-byte.byte-index c.loop-byte-test.true (search rules) in
-          rw (w.has_dot-is, w.is_inside-is, c.loop-byte.invariant, step, w.if-not-is_inside.false) refl
-      | else-byte-eq46+else-not-fits w ↦
-          let step = rest-byte_at c.args.form c.loop-byte.has_dot c.loop-byte.is_inside c.args.text.now c.loop-byte.byte-index c.loop-byte-test.true (search rules) in
-          rw (w.has_dot-is, w.is_inside-is, c.loop-byte.invariant, step, ← w.fits.ensures, w.if-not-fits.false) refl
-    ]
+pub returns-then-first-ne46 : goal.returns-then-first-ne46
+returns-then-first-ne46 c =
+    let some : (element_len c.args.form c.loop-rest.rest.now == 0) ≡ false = search rules in
+    let left : drop (element_len c.args.form c.loop-rest.rest.now) c.loop-rest.rest.now ≡ c.in-Some.first.now ∷ c.in-Some.after.now = search rules in
+    rw (c.loop-rest.invariant, rest-more c.args.form c.loop-rest.has_dot c.loop-rest.rest.now c.in-Some.first.now c.in-Some.after.now some left) (search rules)
+
+pub loop-rest-preserved : goal.loop-rest-preserved
+loop-rest-preserved c =
+    let some : (element_len c.args.form c.loop-rest.rest.now == 0) ≡ false = search rules in
+    let left : drop (element_len c.args.form c.loop-rest.rest.now) c.loop-rest.rest.now ≡ c.in-Some.first.now ∷ c.in-Some.after.now = search rules in
+    rw (c.loop-rest.invariant, rest-more c.args.form c.loop-rest.has_dot c.loop-rest.rest.now c.in-Some.first.now c.in-Some.after.now some left) (search rules)

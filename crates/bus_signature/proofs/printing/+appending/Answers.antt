@@ -25,4 +25,5 @@ append_all-returns-in_err-append-clause-err t c = on_err _ (grew_on _ _ _ _ (tex
 
 pub append_all-loop-signature-preserved : goal.append_all-loop-signature-preserved
 append_all-loop-signature-preserved t c =
-    c.in_ok-append.ensures.ok ∙ rw c.loop-signature.invariant (fields_more (string_bytes c.args.w.now) c.args.signatures.now c.loop-signature.signature-index c.signature-item.result c.loop-signature-test.true c.signature-item.is)
+    c.in_ok-append.ensures.ok ∙ rw c.loop-signature.invariant
+    (fields_more (string_bytes c.args.w.now) c.args.signatures.now c.loop-signature.signature-index c.signature-item.result c.loop-signature-test.true c.signature-item.is)

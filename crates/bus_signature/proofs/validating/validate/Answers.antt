@@ -11,4 +11,8 @@ pub returns-then-not-is_empty : goal.returns-then-not-is_empty
 returns-then-not-is_empty c = read_more c.args.bytes.now c.in-Some.ensures.0 c.in-Some.rest.now c.in-Some.ensures.1 (nil_length c.in-Some.rest.now (sym c.is_empty.ensures ∙ c.if-not-is_empty.true))
 
 pub returns : goal.returns
-returns c = (whole c.in-Some.ensures.0, read_all c.args.bytes.now c.in-Some.ensures.0 c.in-Some.rest.now c.in-Some.ensures.1 (nil_by_test c.in-Some.rest.now (sym c.is_empty.ensures ∙ c.if-not-is_empty.false)))
+returns c = (
+  whole c.in-Some.ensures.0,
+  read_all c.args.bytes.now c.in-Some.ensures.0 c.in-Some.rest.now c.in-Some.ensures.1
+      (nil_by_test c.in-Some.rest.now (sym c.is_empty.ensures ∙ c.if-not-is_empty.false)),
+)

@@ -15,4 +15,10 @@ returns-in_ok-write_str-in-Structure-2-clause-writes g t c = λ p ok.
     let fields = c.loop-field.invariant first.plain in
     let last = c.in_ok-write_str-in-Structure-2.ensures.writes fields.plain refl in
     put_three _ _ _ _ _ _ _ _ _ first fields last
-    (rw (texts_all c.as_slice-field-items.result.now c.loop-field.field-index c.loop-field-test.false, c.in-Structure.is, text_structure c.in-Structure.fields, c.as_slice-field-items.ensures, append_assoc) refl)
+    (rw (
+      texts_all c.as_slice-field-items.result.now c.loop-field.field-index c.loop-field-test.false,
+      c.in-Structure.is,
+      text_structure c.in-Structure.fields,
+      c.as_slice-field-items.ensures,
+      append_assoc,
+    ) refl)
