@@ -8,9 +8,7 @@ use Rattle.bus_peers.specs.declared.session.Session.{Session}
 use Rattle.bus_peers.specs.declared.from_script.Played.{Played}
 use Rattle.bus_peers.specs.Queues.{Queues, queues}
 use Rattle.bus_peers.specs.Reading.{IsOf, session_of}
-use Rattle.bus_open.specs.Commands.{asked}
 use Rattle.bus_open.specs.Run.{ComesTo, FollowFrom, Reads, Plays, PollerFails, RunsOut, ScriptRunsOut}
-use Rattle.bus_open.specs.declared.command.Command.TheVariants.{Play}
 
 -- What comes of the scene and the sessions comes of the script.
 follow_from : (s : Script) (p : Played) (endeds : List Ended) (events : List Event) → IsOf s p → ComesTo p.scene.script p.sessions.items p.rounds endeds events → FollowFrom s endeds events
@@ -34,9 +32,8 @@ unfolding script
 is_short text s e = below 16777216 (length text) (accepted (nat_lt 16777216 (length text)) _ _ s e)
 
 -- A script that was read.
-pub reads : (words : List (List ℕ)) (old new : Option (List ℕ)) (text : List ℕ) (s : Script) → asked words ≡ Ok Play → Consumes old new text → (length text ≤ 16777216 → IsAtEnd new) → script text ≡ Ok s → Reads words old new s
-reads words old new text s is_asked taken whole is = record {
-  is_asked = is_asked;
+pub reads : (old new : Option (List ℕ)) (text : List ℕ) (s : Script) → Consumes old new text → (length text ≤ 16777216 → IsAtEnd new) → script text ≡ Ok s → Reads old new s
+reads old new text s taken whole is = record {
   text = text;
   taken = taken;
   end = whole (is_short text s is);
@@ -44,11 +41,11 @@ reads words old new text s is_asked taken whole is = record {
 }
 
 -- The whole of a run whose script was read.
-pub plays : (words : List (List ℕ)) (old new : Option (List ℕ)) (text : List ℕ) (p : Played) (endeds : List Ended) (events : List Event) → asked words ≡ Ok Play → Consumes old new text → (length text ≤ 16777216 → IsAtEnd new) → ((s : Script) × (script text ≡ Ok s) × IsOf s p) →
-    ComesTo p.scene.script p.sessions.items p.rounds endeds events → Plays words old new endeds events
-plays words old new text p endeds events is_asked taken whole from comes = record {
+pub plays : (old new : Option (List ℕ)) (text : List ℕ) (p : Played) (endeds : List Ended) (events : List Event) → Consumes old new text → (length text ≤ 16777216 → IsAtEnd new) → ((s : Script) × (script text ≡ Ok s) × IsOf s p) →
+    ComesTo p.scene.script p.sessions.items p.rounds endeds events → Plays old new endeds events
+plays old new text p endeds events taken whole from comes = record {
   read = from.0;
-  reads = reads words old new text from.0 is_asked taken whole from.1;
+  reads = reads old new text from.0 taken whole from.1;
   follow = follow_from from.0 p endeds events from.2 comes;
 }
 

@@ -10,33 +10,36 @@ use Rattle.bus_peers.specs.declared.session.Session.{Session}
 use Rattle.bus_peers.specs.declared.open.OpenError.{OpenError}
 use Rattle.bus_peers.specs.declared.open.OpenError.TheVariants as open_err
 use Rattle.bus_peers.specs.Queues.{Queues}
-use Rattle.bus_peers.specs.Plays.{Follows, HasNoPollerFault, faults_of_poller}
+use Rattle.bus_peers.specs.Plays.{Follows, counted, faults_of_poller}
+use Rattle.bus_peers.specs.Faultless.{follows_faultless}
 use Rattle.bus_peers.specs.Headline.{Headline, Opened, Exhausts}
 use Rattle.bus_open.specs.Run.{ComesTo, PollerFails, RunsOut, status_of}
 
+none_counted : (faults : ℕ) → counted faults ≡ 0 → faults ≡ 0
+none_counted faults none = omega (arith, none)
+
 -- at Ok
 pub comes : (answers left : Queues) (sessions : List Session) (rounds : ℕ) (old new : Core) (endeds : List Ended) (start told shown : List Event) →
-    left ≡ answers → start ≡ [] → shown ≡ told → Follows left told → faults_of_poller told ≡ faults_of_poller start →
+    left ≡ answers → start ≡ [] → shown ≡ told → Follows left told → counted (faults_of_poller told) ≡ counted (faults_of_poller start) →
     ((r : List Event) × (Some told ≡ with_told (Some start) r) × Opened sessions rounds old new endeds r × Unit {0}) → ComesTo answers sessions rounds endeds shown
 comes answers left sessions rounds old new endeds start told shown plays none are follows calm opens = record {
   follows = subst (λ (r : List Event). Follows answers r) (sym are) (subst (λ (q : Queues). Follows q told) plays follows);
-  faultless = ap faults_of_poller are ∙ (calm ∙ ap faults_of_poller none);
+  faultless = ap faults_of_poller are ∙ none_counted (faults_of_poller told) (calm ∙ ap (λ t. counted (faults_of_poller t)) none);
   armed = opens.2.armed;
   headline = subst (λ (r : List Event). Headline sessions rounds opens.2.armed endeds r) (sym (are ∙ (same_Some told (start ++ opens.0) opens.1 ∙ ap (λ t. t ++ opens.0) none))) opens.2.headline;
 }
 
 -- where the poller failed
-pub fails : (answers left : Queues) (start told shown : List Event) → ((script : Queues) (t : List Event) → HasNoPollerFault script → Follows script t → faults_of_poller t ≡ 0) →
-    left ≡ answers → start ≡ [] → shown ≡ told → Follows left told → Rose (faults_of_poller start) (faults_of_poller told) → PollerFails answers
-fails answers left start told shown law plays none are follows rose =
+pub fails : (answers left : Queues) (start told shown : List Event) → left ≡ answers → start ≡ [] → shown ≡ told → Follows left told → Rose (counted (faults_of_poller start)) (counted (faults_of_poller told)) → PollerFails answers
+fails answers left start told shown plays none are follows rose =
     let here : Follows answers shown = subst (λ (r : List Event). Follows answers r) (sym are) (subst (λ (q : Queues). Follows q told) plays follows) in
-    let rose' : Rose 0 (faults_of_poller shown) = rw are (subst (λ (r : List Event). Rose (faults_of_poller r) (faults_of_poller told)) none rose) in
+    let rose' : Rose 0 (counted (faults_of_poller shown)) = rw are (subst (λ (r : List Event). Rose (counted (faults_of_poller r)) (counted (faults_of_poller told))) none rose) in
     let some : 0 < faults_of_poller shown = omega (arith, rose') in
     record {
       events = shown;
       follows = here;
       failed = some;
-      faulty = λ calm. omega (arith, some, law answers shown calm here);
+      faulty = λ calm. omega (arith, some, follows_faultless answers shown calm here);
     }
 
 -- which refusals these statuses are

@@ -4,8 +4,8 @@ use Rattle.std.specs.Option.{option_map}
 use Rattle.bus_script.specs.Words.{◌is◌, number_of}
 use Rattle.bus_script.specs.declared.line.Reason.{Reason}
 use Rattle.bus_script.specs.declared.line.Reason.TheVariants.{Words, NotBuilt}
-use Rattle.bus_open.specs.declared.command.Kind.{Kind}
-use Rattle.bus_open.specs.declared.command.Kind.TheVariants as kind
+use Rattle.bus_check.specs.declared.kind.Kind.{Kind}
+use Rattle.bus_check.specs.declared.kind.Kind.TheVariants as kind
 use Rattle.bus_open.specs.declared.command.Command.{Command}
 use Rattle.bus_open.specs.declared.command.Command.TheVariants.{Play, Open, Bulk, Check}
 
@@ -29,12 +29,25 @@ command (name ∷ count ∷ []) = if name is codes "bulk" then option_map Bulk (
 command (name ∷ kind ∷ text ∷ []) = if name is codes "check" then option_map Check (kind_of kind) else None
 command _ = None
 
--- of the commands, `play` alone is built
+-- of the commands, `play` and `check` are built
 abbrev pub built : Option Command → Result Command Reason
 built (Some Play) = Ok Play
-built (Some other) = Err NotBuilt
+built (Some (Check kind)) = Ok (Check kind)
+built (Some Open) = Err NotBuilt
+built (Some (Bulk count)) = Err NotBuilt
 built None = Err Words
 
 -- what the words ask for, or why they are refused
 abbrev pub asked : List (List ℕ) → Result Command Reason
 asked words = built (command words)
+
+-- the text that is to be checked
+abbrev pub checked_text : List (List ℕ) → List ℕ
+checked_text (name ∷ kind ∷ text ∷ []) = text
+checked_text _ = []
+
+abbrev pub IsBuilt : Command → Type 0
+IsBuilt Play = Unit {0}
+IsBuilt (Check kind) = Unit {0}
+IsBuilt Open = ⊥
+IsBuilt (Bulk count) = ⊥

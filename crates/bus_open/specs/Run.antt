@@ -14,8 +14,11 @@ use Rattle.bus_peers.specs.declared.open.OpenError.TheVariants as open_err
 use Rattle.bus_peers.specs.declared.session.Session.{Session}
 use Rattle.bus_peers.specs.Reading.{session_of}
 use Rattle.bus_peers.specs.Headline.{Headline}
-use Rattle.bus_open.specs.Commands.{asked}
-use Rattle.bus_open.specs.declared.command.Command.TheVariants.{Play}
+use Rattle.bus_script.specs.Printed.{printed}
+use Rattle.bus_check.specs.declared.kind.Kind.{Kind}
+use Rattle.bus_check.specs.Says.{Says}
+use Rattle.bus_open.specs.Commands.{asked, checked_text}
+use Rattle.bus_open.specs.declared.command.Command.TheVariants.{Play, Check}
 
 -- The text came from the source: to its end, or more than a script may have.
 pub record WasRead (old new : Option (List ℕ)) (text : List ℕ) : Type 0 where
@@ -37,19 +40,35 @@ pub record FollowFrom (s : Script) (endeds : List Ended) (events : List Event) :
   pub given : s.rounds ≡ Some rounds
   pub comes : ComesTo (queues (length s.sessions) s.answers) (map session_of s.sessions) rounds endeds events
 
--- The words ask for a script to be played, and the source gave this one and was read to its end.
-pub record Reads (words : List (List ℕ)) (old new : Option (List ℕ)) (s : Script) : Type 0 where
-  pub is_asked : asked words ≡ Ok Play
+abbrev pub is_open : Ending → Bool
+is_open (ending.Open guid passes) = true
+is_open other = false
+
+-- every session is open
+abbrev pub all_open : List Ended → Bool
+all_open endeds = list_all (λ e. is_open e.ending) endeds
+
+-- The source gave this script, and was read to its end.
+pub record Reads (old new : Option (List ℕ)) (s : Script) : Type 0 where
   pub text : List ℕ
   pub taken : Consumes old new text
   pub end : IsAtEnd new
   pub is_script : script text ≡ Ok s
 
 -- A script was read, and these endings and this record follow from it.
-pub record Plays (words : List (List ℕ)) (old new : Option (List ℕ)) (endeds : List Ended) (events : List Event) : Type 0 where
+pub record Plays (old new : Option (List ℕ)) (endeds : List Ended) (events : List Event) : Type 0 where
   pub read : Script
-  pub reads : Reads words old new read
+  pub reads : Reads old new read
   pub follow : FollowFrom read endeds events
+
+-- The results of a run, as a text, and whether all is well.
+pub data Results (words : List (List ℕ)) (old new : Option (List ℕ)) : Bool → List ℕ → Type 0 where
+  -- of a script that is played: every session is open
+  played : (endeds : List Ended) (events : List Event) (well : Bool) (text : List ℕ) → asked words ≡ Ok Play → Plays old new endeds events →
+      well ≡ all_open endeds → text ≡ printed endeds events → Results words old new well text
+  -- of a text that is checked: it is one of its kind; nothing is read
+  checked : (kind : Kind) (well : Bool) (text : List ℕ) → asked words ≡ Ok (Check kind) → Keeps old new →
+      Says kind (checked_text words) well text → Results words old new well text
 
 -- A call of the poller failed, as an answer of the script has it.
 pub record PollerFails (answers : Queues) : Type 0 where
@@ -72,16 +91,12 @@ status_of open_err.OutOfMemory = 5
 status_of open_err.Poller = 6
 status_of (open_err.Exhausted counter value) = 7
 
+-- The script that was read is refused.
+abbrev pub RefusesScript : Option (List ℕ) → Option (List ℕ) → Refused → Type 0
+RefusesScript old new r = (text : List ℕ) × WasRead old new text × (script text ≡ Err r)
+
 -- The words are refused, or the script that was read.
 abbrev pub IsRefused : List (List ℕ) → Option (List ℕ) → Option (List ℕ) → Refused → Type 0
 IsRefused words old new r =
     (Keeps old new × (r.line ≡ 0) × (asked words ≡ Err r.reason))
-    ⊎ ((asked words ≡ Ok Play) × ((text : List ℕ) × WasRead old new text × (script text ≡ Err r)))
-
-abbrev pub is_open : Ending → Bool
-is_open (ending.Open guid passes) = true
-is_open other = false
-
--- every session is open
-abbrev pub all_open : List Ended → Bool
-all_open endeds = list_all (λ e. is_open e.ending) endeds
+    ⊎ ((asked words ≡ Ok Play) × RefusesScript old new r)

@@ -2,9 +2,9 @@
 
 ghost use Rattle.std.specs.Prelude.{◌≡◌, ◌^◌, ◌∷◌, [], IfOk, map, string_bytes};
 ghost use Rattle.bus_script.specs.Words.{number_of};
-ghost use Rattle.bus_open.specs.Commands.{asked, command, kind_of};
-ghost use Rattle.bus_open.specs.declared.command.Command.TheVariants.{Play};
+ghost use Rattle.bus_open.specs.Commands.{asked, command, kind_of, checked_text, IsBuilt};
 
+use bus_check::Kind;
 use bus_script::{Reason, number_below};
 
 /// What the program is asked to do.
@@ -20,20 +20,6 @@ pub enum Command {
     Check(Kind),
 }
 
-/// What a text is read as.
-#[derive(Clone, Copy, Debug, PartialEq, Eq)]
-pub enum Kind {
-    Signature,
-    Address,
-    BusName,
-    UniqueName,
-    WellKnownName,
-    InterfaceName,
-    MemberName,
-    PropertyName,
-    ErrorName,
-}
-
 /// One more than the greatest count of sessions that `bulk` makes.
 const SESSIONS_LIMIT: u64 = 10_001;
 
@@ -43,47 +29,46 @@ impl Command {
         ensures { result ≡ command (map string_bytes words.now) }
     {
         match words {
-            [name] => alone(name.as_str()),
-            [name, count] => with_count(name.as_str(), count.as_str()),
-            [name, kind, text] => with_text(name.as_str(), kind.as_str(), text.as_str()),
+            [name] => plain_command(name.as_str()),
+            [name, count] => counting_command(name.as_str(), count.as_str()),
+            [name, kind, text] => checking_command(name.as_str(), kind.as_str(), text.as_str()),
             _ => None,
         }
     }
 }
 
-impl Kind {
-    /// The kind that this word names, where it names one.
-    pub fn from_word(word: &str) -> Option<Kind>
-        ensures { result ≡ kind_of word.now }
-    {
-        match word {
-            "signature" => Some(Kind::Signature),
-            "address" => Some(Kind::Address),
-            "bus" => Some(Kind::BusName),
-            "unique" => Some(Kind::UniqueName),
-            "well-known" => Some(Kind::WellKnownName),
-            "interface" => Some(Kind::InterfaceName),
-            "member" => Some(Kind::MemberName),
-            "property" => Some(Kind::PropertyName),
-            "error" => Some(Kind::ErrorName),
-            _ => None,
-        }
+/// The kind that this word names, where it names one.
+fn kind_named(word: &str) -> Option<Kind>
+    ensures { result ≡ kind_of word.now }
+{
+    match word {
+        "signature" => Some(Kind::Signature),
+        "address" => Some(Kind::Address),
+        "bus" => Some(Kind::BusName),
+        "unique" => Some(Kind::UniqueName),
+        "well-known" => Some(Kind::WellKnownName),
+        "interface" => Some(Kind::InterfaceName),
+        "member" => Some(Kind::MemberName),
+        "property" => Some(Kind::PropertyName),
+        "error" => Some(Kind::ErrorName),
+        _ => None,
     }
 }
 
-/// What the words ask for, or why they are refused. Of the commands, `play` alone is built.
+/// What the words ask for, or why they are refused. Of the commands, `play` and `check` are built.
 pub fn asked(words: &[String]) -> Result<Command, Reason>
     ensures answer { result ≡ asked (map string_bytes words.now) }
-    ensures built { IfOk result (λ command. command ≡ Play) }
+    ensures built { IfOk result IsBuilt }
 {
     match Command::from_words(words) {
         Some(Command::Play) => Ok(Command::Play),
-        Some(_) => Err(Reason::NotBuilt),
+        Some(Command::Check(kind)) => Ok(Command::Check(kind)),
+        Some(Command::Open | Command::Bulk(_)) => Err(Reason::NotBuilt),
         None => Err(Reason::Words),
     }
 }
 
-fn alone(name: &str) -> Option<Command>
+fn plain_command(name: &str) -> Option<Command>
     ensures { result ≡ command (name.now ∷ []) }
 {
     match name {
@@ -93,7 +78,7 @@ fn alone(name: &str) -> Option<Command>
     }
 }
 
-fn with_count(name: &str, count: &str) -> Option<Command>
+fn counting_command(name: &str, count: &str) -> Option<Command>
     ensures { result ≡ command (name.now ∷ count.now ∷ []) }
 {
     match name {
@@ -110,11 +95,21 @@ fn bulk_count(word: &str) -> Option<u32>
     Some(count as u32)
 }
 
-fn with_text(name: &str, kind: &str, _text: &str) -> Option<Command>
+fn checking_command(name: &str, kind: &str, _text: &str) -> Option<Command>
     ensures { result ≡ command (name.now ∷ kind.now ∷ _text.now ∷ []) }
 {
     match name {
-        "check" => Kind::from_word(kind).map(Command::Check),
+        "check" => kind_named(kind).map(Command::Check),
         _ => None,
+    }
+}
+
+/// The text that is to be checked, where the words ask for one.
+pub(crate) fn checked_text(words: &[String]) -> &str
+    ensures { result.now ≡ checked_text (map string_bytes words.now) }
+{
+    match words {
+        [_, _, text] => text.as_str(),
+        _ => "",
     }
 }

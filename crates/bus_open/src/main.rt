@@ -1,10 +1,12 @@
-//! Plays a script of D-Bus openings and prints how each ended.
+//! Plays a script of D-Bus openings and prints how each ended, or says what a text is.
 //!
 //! [`program::run`] is the program over any source and sink; `main` hands it the standard streams.
 #![tactic(auto)]
 
+mod checking;
 pub mod command;
 pub mod memory;
+mod playing;
 pub mod program;
 mod refusal;
 pub mod standard;

@@ -1,134 +1,30 @@
-//! The program: words and a script in, the endings and the events out.
+//! The program: words and what they ask to be read in, results and a status out.
 
-ghost use Rattle.std.specs.Prelude.{◌≡◌, ◌≢◌, ◌≤◌, ◌<◌, ◌^◌, ◌⊎◌, [], ℕ, List, length, true, false, map, string_bytes, Ok, Err};
-ghost use Rattle.std.specs.List.{list_all};
+ghost use Rattle.std.specs.Prelude.{◌≡◌, ◌≢◌, ◌≤◌, ◌⊎◌, ℕ, Bool, List, length, true, false, map, string_bytes, Ok, Err};
 ghost use Rattle.std.specs.Io.KnownBytes.{Appends, Keeps};
 ghost use Rattle.react_core.specs.Told.{Rose};
-ghost use Rattle.react_core.specs.declared.outside.Event.{Event};
 ghost use Rattle.bus_script.specs.Script.{Script, Refused};
-ghost use Rattle.bus_script.specs.Printed.{printed, refusal};
-ghost use Rattle.bus_script.specs.declared.ended.Ended.{Ended};
+ghost use Rattle.bus_script.specs.Printed.{refusal};
 ghost use Rattle.bus_script.specs.declared.line.Reason.{Reason};
 ghost use Rattle.bus_peers.specs.Queues.{queues};
-ghost use Rattle.bus_peers.specs.Sessions.{is_built};
 ghost use Rattle.bus_open.specs.Streams.{GainsFront, GainsOrFails, LosesFront};
 ghost use Rattle.bus_open.specs.Commands.{asked};
-ghost use Rattle.bus_open.specs.Run.{ComesTo, Plays, Reads, PollerFails, RunsOut, ScriptRunsOut, IsRefused, all_open, is_open, status_of};
+ghost use Rattle.bus_open.specs.Run.{Results, Reads, PollerFails, ScriptRunsOut, IsRefused};
 ghost use Rattle.bus_open.specs.declared.command.Command.TheVariants.{Play};
 
-use crate::command::asked;
+use crate::checking::check_text;
+use crate::command::{Command, asked, checked_text};
+use crate::playing::play;
 use crate::refusal::refuse;
-use crate::status;
 use crate::stream::{Sink, Source};
-use crate::whole::{ReadError, read_all, write_all};
-use bus_peers::{OpenError, Played, Scene, faultless, open_all};
-use bus_script::{Ended, Ending, ScriptError, ScriptForm, printed};
-use react_core::outside::{Event, Outside};
-use react_core::reactor::Reactor;
+use react_core::outside::Outside;
 use std::alloc::Global;
-
-/// A script has at most so many bytes.
-const LONGEST_SCRIPT: usize = 16_777_216;
-
-/// The reactor takes at most so many reports a wait.
-const MOST_REPORTS: usize = 64;
-
-fn is_open(ended: &Ended) -> bool
-    ensures { result ≡ is_open ended.now.ending }
-{
-    matches!(ended.ending, Ending::Open { .. })
-}
-
-fn all_open(endeds: &[Ended]) -> bool
-    ensures { result ≡ all_open endeds.now }
-{
-    endeds.iter().all(is_open)
-}
-
-/// Writes the endings and the events.
-fn report<K: Sink>(alloc: Global, sink: &mut K, endeds: &[Ended], events: &[Event]) -> u8
-    ensures status { (result ≡ 0) ⊎ (result ≡ 1) ⊎ (result ≡ 4) ⊎ (result ≡ 5) }
-    ensures all_open { result ≡ 0 →
-        (all_open endeds.now ≡ true)
-        × Appends (K.held sink.old) (K.held sink.new) (printed endeds.now events.now) }
-    ensures other { result ≡ 1 →
-        (all_open endeds.now ≡ false)
-        × Appends (K.held sink.old) (K.held sink.new) (printed endeds.now events.now) }
-    ensures failed { result ≡ 4 →
-        Rose (K.write_faults sink.old) (K.write_faults sink.new)
-        × GainsFront (K.held sink.old) (K.held sink.new) (printed endeds.now events.now) }
-    ensures nothing { result ≡ 5 → Keeps (K.held sink.old) (K.held sink.new) }
-{
-    let Ok(text) = printed(alloc, endeds, events) else {
-        return status::OUT_OF_MEMORY;
-    };
-    if write_all(sink, text.as_str().as_bytes()).is_err() {
-        return status::WRITE_FAULT;
-    }
-    if all_open(endeds) {
-        status::ALL_OPEN
-    } else {
-        status::NOT_ALL_OPEN
-    }
-}
-
-/// The status of a refusal.
-fn status_of(refusal: OpenError) -> u8
-    ensures { result ≡ status_of refusal }
-{
-    match refusal {
-        OpenError::OutOfMemory => status::OUT_OF_MEMORY,
-        OpenError::Poller => status::POLLER,
-        OpenError::Exhausted { .. } => status::EXHAUSTED,
-    }
-}
-
-/// Opens the sessions of a script over its scene, and writes how they ended.
-fn perform<K: Sink>(alloc: Global, sink: &mut K, played: Played) -> u8
-    requires new { played.scene.told ≡ [] }
-    requires few { length played.sessions.items < 2 ^ 32 }
-    requires built { list_all is_built played.sessions.items ≡ true }
-    ensures status { (result ≡ 0) ⊎ (result ≡ 1) ⊎ (result ≡ 4) ⊎ (result ≡ 5) ⊎ (result ≡ 6) ⊎ (result ≡ 7) }
-    ensures opened { result ≡ 0 →
-        (endeds : List Ended) × (r : List Event)
-        × ComesTo played.scene.script played.sessions.items played.rounds endeds r × (all_open endeds ≡ true)
-        × Appends (K.held sink.old) (K.held sink.new) (printed endeds r) }
-    ensures other { result ≡ 1 →
-        (endeds : List Ended) × (r : List Event)
-        × ComesTo played.scene.script played.sessions.items played.rounds endeds r × (all_open endeds ≡ false)
-        × Appends (K.held sink.old) (K.held sink.new) (printed endeds r) }
-    ensures failed { result ≡ 4 →
-        (endeds : List Ended) × (r : List Event)
-        × ComesTo played.scene.script played.sessions.items played.rounds endeds r
-        × Rose (K.write_faults sink.old) (K.write_faults sink.new)
-        × GainsFront (K.held sink.old) (K.held sink.new) (printed endeds r) }
-    ensures nothing { result ≡ 5 → Keeps (K.held sink.old) (K.held sink.new) }
-    ensures poller { result ≡ 6 → PollerFails played.scene.script × Keeps (K.held sink.old) (K.held sink.new) }
-    ensures exhausted { result ≡ 7 → RunsOut played.tick played.rounds × Keeps (K.held sink.old) (K.held sink.new) }
-{
-    let Played {
-        mut scene,
-        sessions,
-        rounds,
-        tick,
-        timer,
-    } = played;
-    let Ok(mut reactor) = Reactor::starting_at(alloc, MOST_REPORTS, tick, timer) else {
-        return status::OUT_OF_MEMORY;
-    };
-    faultless();
-    let opened = open_all(alloc, &mut reactor, &mut scene, sessions, rounds);
-    let events = scene.events();
-    match opened {
-        Ok(endeds) => report(alloc, sink, endeds.as_slice(), events),
-        Err(refusal) => status_of(refusal),
-    }
-}
 
 /// Runs the program on these words, and answers its status.
 ///
 /// `play` reads a script from the source, opens its sessions over the scene that the script makes, and writes the endings
-/// and the record of the events into the sink. The real outside is for commands that are not built yet.
+/// and the record of the events into the sink. `check` reads a text as one of its kind and writes what it is. The real
+/// outside is for commands that are not built yet.
 pub fn run<S: Source, K: Sink, O: Outside>(
     alloc: Global,
     words: &[String],
@@ -138,22 +34,19 @@ pub fn run<S: Source, K: Sink, O: Outside>(
 ) -> u8
     ensures status { result ≤ 7 }
 
-    // Every session of the script is open.
-    ensures opened { result ≡ 0 →
-        (endeds : List Ended) × (r : List Event)
-        × Plays (map string_bytes words.now) (S.left source.old) (S.left source.new) endeds r
-        × (all_open endeds ≡ true) × Appends (K.held sink.old) (K.held sink.new) (printed endeds r) }
+    // All is well: every session of the script is open, or the text is one of its kind.
+    ensures well { result ≡ 0 →
+        (text : List ℕ) × Results (map string_bytes words.now) (S.left source.old) (S.left source.new) true text
+        × Appends (K.held sink.old) (K.held sink.new) text }
 
-    // Some session ended otherwise.
+    // Some session ended otherwise, or the text is none of its kind.
     ensures other { result ≡ 1 →
-        (endeds : List Ended) × (r : List Event)
-        × Plays (map string_bytes words.now) (S.left source.old) (S.left source.new) endeds r
-        × (all_open endeds ≡ false) × Appends (K.held sink.old) (K.held sink.new) (printed endeds r) }
+        (text : List ℕ) × Results (map string_bytes words.now) (S.left source.old) (S.left source.new) false text
+        × Appends (K.held sink.old) (K.held sink.new) text }
 
     // The words or the script are refused; the line is written as far as the sink takes it.
     ensures refused { result ≡ 2 →
-        (refused : Refused)
-        × IsRefused (map string_bytes words.now) (S.left source.old) (S.left source.new) refused
+        (refused : Refused) × IsRefused (map string_bytes words.now) (S.left source.old) (S.left source.new) refused
         × GainsOrFails (K.held sink.old) (K.held sink.new) (K.write_faults sink.old) (K.write_faults sink.new) (refusal refused.line refused.reason) }
     ensures refused_words { (reason : Reason) →
         asked (map string_bytes words.now) ≡ Err reason → (result ≡ 2) ⊎ (result ≡ 5) }
@@ -166,23 +59,25 @@ pub fn run<S: Source, K: Sink, O: Outside>(
 
     // The sink failed while the results were written, and gained a first part of them.
     ensures write_fault { result ≡ 4 →
-        (endeds : List Ended) × (r : List Event)
-        × Plays (map string_bytes words.now) (S.left source.old) (S.left source.new) endeds r
+        (well : Bool) × (text : List ℕ)
+        × Results (map string_bytes words.now) (S.left source.old) (S.left source.new) well text
         × Rose (K.write_faults sink.old) (K.write_faults sink.new)
-        × GainsFront (K.held sink.old) (K.held sink.new) (printed endeds r) }
+        × GainsFront (K.held sink.old) (K.held sink.new) text }
 
     // Memory ran out, and nothing was written.
     ensures memory { result ≡ 5 → Keeps (K.held sink.old) (K.held sink.new) }
 
     // A call of the poller failed, as an answer of the script has it, and nothing was written.
     ensures poller { result ≡ 6 →
-        (s : Script) × Reads (map string_bytes words.now) (S.left source.old) (S.left source.new) s
-        × PollerFails (queues (length s.sessions) s.answers) × Keeps (K.held sink.old) (K.held sink.new) }
+        (asked (map string_bytes words.now) ≡ Ok Play)
+        × ((s : Script) × Reads (S.left source.old) (S.left source.new) s
+        × PollerFails (queues (length s.sessions) s.answers) × Keeps (K.held sink.old) (K.held sink.new)) }
 
     // The numbers of the rounds ran out, and nothing was written.
     ensures exhausted { result ≡ 7 →
-        (s : Script) × Reads (map string_bytes words.now) (S.left source.old) (S.left source.new) s
-        × ScriptRunsOut s × Keeps (K.held sink.old) (K.held sink.new) }
+        (asked (map string_bytes words.now) ≡ Ok Play)
+        × ((s : Script) × Reads (S.left source.old) (S.left source.new) s
+        × ScriptRunsOut s × Keeps (K.held sink.old) (K.held sink.new)) }
 
     // A run without a fault of its streams ends with the results, a refusal, want of memory, or as its script makes the
     // poller or the rounds' numbers fail.
@@ -194,17 +89,10 @@ pub fn run<S: Source, K: Sink, O: Outside>(
     ensures real { real.new ≡ real.old }
 {
     let _ = real;
-    if let Err(reason) = asked(words) {
-        return refuse(alloc, sink, 0, reason);
-    }
-    let text = match read_all(alloc, source, LONGEST_SCRIPT) {
-        Ok(text) => text,
-        Err(ReadError::Failed) => return status::READ_FAULT,
-        Err(ReadError::OutOfMemory) => return status::OUT_OF_MEMORY,
-    };
-    match Scene::from_script(alloc, text.as_slice(), ScriptForm::Play) {
-        Ok(played) => perform(alloc, sink, played),
-        Err(ScriptError::Refused { line, reason }) => refuse(alloc, sink, line, reason),
-        Err(ScriptError::OutOfMemory) => status::OUT_OF_MEMORY,
+    match asked(words) {
+        Ok(Command::Play) => play(alloc, source, sink),
+        Ok(Command::Check(kind)) => check_text(alloc, sink, kind, checked_text(words)),
+        Ok(Command::Open | Command::Bulk(_)) => unreachable!(),
+        Err(reason) => refuse(alloc, sink, 0, reason),
     }
 }

@@ -1,9 +1,9 @@
 //! The statuses that the program ends with.
 
-/// Every session is open.
-pub const ALL_OPEN: u8 = 0;
-/// Some session ended otherwise.
-pub const NOT_ALL_OPEN: u8 = 1;
+/// Every session is open, or the text is one of its kind.
+pub const ALL_WELL: u8 = 0;
+/// Some session ended otherwise, or the text is none of its kind.
+pub const NOT_ALL_WELL: u8 = 1;
 /// The words or the script are refused.
 pub const REFUSED: u8 = 2;
 /// The source failed.

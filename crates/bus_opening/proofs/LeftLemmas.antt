@@ -1,5 +1,6 @@
 -- Where an opening begins, and what it leaves over.
 use Rattle.std.proofs.Common.{◌≡◌, ℕ, zero, suc, ◌+◌, ◌-◌, ◌<◌, ◌≤◌, List, [], length, Some, None, refl, sym, ap, ◌∙◌, arith}
+use Rattle.bus_opening.specs.Limits.{command_limit}
 use Rattle.bus_opening.specs.Lines.{following}
 use Rattle.bus_opening.specs.Talk.{Said, goes, onto, Side, talk, Ask, ask_now, looked_from, left}
 use Rattle.bus_opening.specs.Standing.{cut, Standing, Stands, asks}
@@ -35,9 +36,9 @@ looked_from-skip (suc m) talks b w (suc k) j le none =
 pub left_is : {Phase : Type 0} (side : Side Phase) (b : List ℕ) (o : Standing Phase) (a : Ask) → Stands Phase side b o → asks o ≡ Some a → left (talk side) b (length o.written) ≡ o.rest
 unfolding left
 left_is side b o a s e =
-    let skip = looked_from-skip o.count (talk side) b (length o.written) 64 0 s.few (λ i h. let z : 0 + i ≡ i = omega arith in rw z (s.passed i h)) in
+    let skip = looked_from-skip o.count (talk side) b (length o.written) command_limit 0 s.few (λ i h. let z : 0 + i ≡ i = omega arith in rw z (s.passed i h)) in
     let z : 0 + o.count ≡ o.count = omega arith in
-    ap (λ (j : ℕ). following j b) (skip ∙ ap (λ (j : ℕ). looked_from (talk side) b (length o.written) (64 - o.count) j) z ∙ looked_from-now (talk side) b (length o.written) (64 - o.count) o.count a (here_is side b o s ∙ e)) ∙ sym s.rest
+    ap (λ (j : ℕ). following j b) (skip ∙ ap (λ (j : ℕ). looked_from (talk side) b (length o.written) (command_limit - o.count) j) z ∙ looked_from-now (talk side) b (length o.written) (command_limit - o.count) o.count a (here_is side b o s ∙ e)) ∙ sym s.rest
 
 -- before any byte came it stands at its first pieces
 pub stands_first : {Phase : Type 0} (side : Side Phase) → Stands Phase side [] (record { turn = cut 0 (onto side.opening (goes [] side.start)); count = 0; rest = []; written = [] })

@@ -5,6 +5,7 @@ use Rattle.std.specs.List.{concat}
 use Rattle.std.proofs.lemmas.List.{length-append, drop-append-le, take-take, get_or_append_left}
 use Rattle.std.proofs.lemmas.List.Sums.{sum_by-cons, position_or_len_is, fails_before_first, passes_at_first}
 use Rattle.std.proofs.lemmas.Bool.{eqb-true, ltb-true, lt-ltb}
+use Rattle.bus_opening.specs.Limits.{line_limit}
 use Rattle.bus_opening.specs.Lines.{Lines, lines, onto_line, has_feed, feed_at, following}
 use Rattle.bus_opening.specs.Talk.{Said, Status, more, done, refused, send, piece_rest, ask_by, ask_now, recv, line_too_long}
 
@@ -76,7 +77,7 @@ some_unless false x e = absurd cc
 pub ask_by-more : (s : Status) (k : ℕ) (y x : List ℕ) → ask_by s k y ≡ None → ask_by s k (y ++ x) ≡ None
 ask_by-more more zero y x e = absurd cc
 ask_by-more more (suc k) y x e =
-    let p = none_else (ltb 16384 (feed_at y)) line_too_long (cond (has_feed y) None (Some recv)) e in
+    let p = none_else (ltb line_limit (feed_at y)) line_too_long (cond (has_feed y) None (Some recv)) e in
     let came : feed_at y < length y = ltb-true _ _ (some_unless (has_feed y) recv p.1) in
     let longer : feed_at y < length (y ++ x) = omega (arith, length-append y x) in
     rw (feed_stays y x came, p.0, lt-ltb (feed_at y) (length (y ++ x)) longer) refl

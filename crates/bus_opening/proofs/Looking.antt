@@ -3,6 +3,7 @@ use Rattle.std.proofs.Common.{◌≡◌, ℕ, ◌+◌, ◌<◌, Bool, List, [], 
 use Rattle.std.specs.Prelude.{IsSome}
 use Rattle.std.proofs.lemmas.Bool.{le-ltb, lt-ltb}
 use Rattle.std.proofs.lemmas.List.{append-nil}
+use Rattle.bus_opening.specs.Limits.{line_limit}
 use Rattle.bus_opening.specs.Lines.{feed_at}
 use Rattle.bus_opening.specs.Talk.{Said, Turn, goes, Side}
 use Rattle.bus_opening.specs.Parts.{Place, step_at, turn_of, place_of, LineAnswered}
@@ -11,7 +12,8 @@ use Rattle.bus_opening.specs.declared.exchange.Stage.{Stage}
 use Rattle.bus_opening.specs.declared.exchange.Stage.TheVariants as stage
 use Rattle.bus_opening.specs.declared.exchange.Next.TheVariants as next
 use Rattle.react_core.specs.Told.{told-nothing}
-use Rattle.bus_opening.specs.Outer.{Outer}
+use Rattle.react_core.specs.Outer.{Outer, keeps-same}
+use Rattle.react_core.specs.Outer as part
 use Rattle.bus_opening.specs.declared.verdict.Step.TheVariants as steps
 use Rattle.bus_opening.specs.declared.verdict.Verdict.{Verdict}
 use Rattle.bus_opening.specs.declared.verdict.Verdict.TheVariants as verdict
@@ -23,7 +25,7 @@ use Rattle.bus_opening.specs.declared.exchange.Exchange.TheInside.{Inside}
 use Rattle.bus_opening.specs.Nexts.{NextIs, MayLook}
 use Rattle.bus_opening.specs.Openings.{Opening, standing, StandsIn, MovesOpening, RunsOpening, PollsOpening, written_of, left_over, Looked, Looks}
 use Rattle.bus_opening.proofs.StandLemmas.{stands_looked}
-use Rattle.bus_opening.proofs.OpeningMoves.{asked_in, alone, turn_cut, leaves_by, keeps_nothing}
+use Rattle.bus_opening.proofs.OpeningMoves.{asked_in, alone, turn_cut, leaves_by, leaves_looked}
 use Rattle.bus_opening.proofs.Moving.{moves_nothing}
 use Rattle.bus_opening.proofs.OutboxLemmas.{rests-piece}
 
@@ -35,15 +37,15 @@ module _ (Origin : Type 0) (wire : ℕ) where
       nothing = moves_nothing Opening StandsIn written_of wire o u.events
 
       by_verdict : (v : Verdict) → NextIs o (next.Ends v) → PollsOpening Origin wire o o u u (steps.Done v)
-      by_verdict (verdict.Authenticated settled) n = alone Origin wire o o u u [] _ nothing (refl, λ talks b st. asked_in talks b o _ st n) (leaves_by o _ n) refl (keeps_nothing Origin wire u)
-      by_verdict verdict.Handshake n = alone Origin wire o o u u [] _ nothing (inl (refl, λ talks b st. asked_in talks b o _ st n)) (leaves_by o _ n) refl (keeps_nothing Origin wire u)
+      by_verdict (verdict.Authenticated settled) n = alone Origin wire o o u u [] _ nothing (refl, λ talks b st. asked_in talks b o _ st n) (leaves_by o _ n) refl (keeps-same (part.Wire wire) u)
+      by_verdict verdict.Handshake n = alone Origin wire o o u u [] _ nothing (inl (refl, λ talks b st. asked_in talks b o _ st n)) (leaves_by o _ n) refl (keeps-same (part.Wire wire) u)
       by_verdict verdict.Io n = absurd n
-      by_verdict verdict.LineTooLong n = alone Origin wire o o u u [] _ nothing (refl, λ talks b st. asked_in talks b o _ st n) (leaves_by o _ n) refl (keeps_nothing Origin wire u)
-      by_verdict verdict.TooManyCommands n = alone Origin wire o o u u [] _ nothing (refl, λ talks b st. asked_in talks b o _ st n) (leaves_by o _ n) refl (keeps_nothing Origin wire u)
+      by_verdict verdict.LineTooLong n = alone Origin wire o o u u [] _ nothing (refl, λ talks b st. asked_in talks b o _ st n) (leaves_by o _ n) refl (keeps-same (part.Wire wire) u)
+      by_verdict verdict.TooManyCommands n = alone Origin wire o o u u [] _ nothing (refl, λ talks b st. asked_in talks b o _ st n) (leaves_by o _ n) refl (keeps-same (part.Wire wire) u)
 
   pub no_memory : (o q p : Opening) (u : Outer Origin) → q ≡ o → p ≡ q → PollsOpening Origin wire o p u u steps.OutOfMemory
   no_memory o q p u e f = subst (λ (x : Opening). PollsOpening Origin wire o x u u steps.OutOfMemory) (sym (f ∙ e))
-      (alone Origin wire o o u u [] _ (moves_nothing Opening StandsIn written_of wire o u.events) refl tt refl (keeps_nothing Origin wire u))
+      (alone Origin wire o o u u [] _ (moves_nothing Opening StandsIn written_of wire o u.events) refl (leaves_looked o) refl (keeps-same (part.Wire wire) u))
 
 turn_quiet : (s : Stage) (ws : List (List ℕ)) (place : Place) → place_of s ≡ Some place → length ws ≡ 0 → turn_of s ws ≡ goes [] place
 turn_quiet (stage.Client c) [] place e h = ap (λ (q : Place). goes [] q) (cc)
@@ -58,7 +60,7 @@ same_standing side b t u i j x y z w e f g h s = rw (sym e, sym f, sym g, sym h)
 stands_line : (o p : Opening) (feed : ℕ) (place : Place) (talks : List (List ℕ) → Said) (b : List ℕ) → MayLook o feed → place_of o.stage ≡ Some place → Looked place o p → StandsIn talks b o → StandsIn talks b p
 stands_line o p feed place talks b m e l st =
     let s = stands_looked st.side b (standing o) place (turn_quiet o.stage o.waiting place e m.quiet) m.few
-    (le-ltb 16384 (feed_at o.rest) (omega (arith, m.at_feed, m.short))) (lt-ltb (feed_at o.rest) (length o.rest) (omega (arith, m.at_feed, m.whole))) st.stands in
+    (le-ltb line_limit (feed_at o.rest) (omega (arith, m.at_feed, m.short))) (lt-ltb (feed_at o.rest) (length o.rest) (omega (arith, m.at_feed, m.whole))) st.stands in
     record {
       side = st.side;
       talks_so = st.talks_so;
@@ -81,7 +83,7 @@ looks_on Origin wire o q p feed u e m looks =
           };
         };
         count_stays = refl;
-        keeps = keeps_nothing Origin wire u;
+        keeps = keeps-same (part.Wire wire) u;
       },
       rw (l.2.count, l.2.rest) (omega (arith, m.few, length-drop (feed_at o.rest + 1) o.rest)),
     )

@@ -15,6 +15,7 @@ use Rattle.react_core.specs.declared.outside.Fault.TheVariants as fault
 use Rattle.react_core.specs.declared.outside.Received.{Received}
 use Rattle.react_core.specs.declared.outside.Received.TheVariants as received
 use Rattle.react_core.specs.Told.{told, recv_told, send_told, Counted, IsReceived, IsSent}
+use Rattle.bus_opening.specs.Limits.{line_limit, read_size}
 use Rattle.bus_opening.specs.Talk.{Said, Turn, Ask, ask, left, send, recv}
 use Rattle.bus_opening.specs.Parts.{Place, turn_of}
 use Rattle.bus_opening.specs.declared.exchange.Stage.{Stage}
@@ -24,10 +25,11 @@ use Rattle.bus_opening.specs.declared.verdict.Step.TheVariants as step
 use Rattle.bus_opening.specs.declared.verdict.Verdict.TheVariants as verdict
 use Rattle.bus_opening.specs.Outboxes.{Sending, first_piece}
 use Rattle.bus_opening.specs.AfterSent.{after_sent, SendsLess}
-use Rattle.bus_opening.specs.Outer.{Outer, Keeps}
+use Rattle.react_core.specs.Outer.{Outer, Keeps, keeps-then}
+use Rattle.react_core.specs.Outer as part
 use Rattle.bus_opening.specs.Standing.{rests, cut, pieces_of, Stands, asks}
 use Rattle.bus_opening.specs.Openings.{Opening, standing, StandsIn, MovesOpening, RunsOpening, PollsOpening, written_of, rest_of, left_over}
-use Rattle.bus_opening.specs.Polling.{bytes_got, bytes_taken, AreAsked, Concludes, Asks, Leaves, IoCounted}
+use Rattle.bus_opening.specs.Polling.{bytes_got, bytes_taken, AreAsked, Concludes, Asks, FollowsLooked, Leaves, IoCounted}
 use Rattle.bus_opening.proofs.StandLemmas.{asked, stands_taken, stands_got, rests-left}
 use Rattle.bus_opening.proofs.LeftLemmas.{left_is}
 use Rattle.bus_opening.proofs.Moving.{runs_then, polls_then}
@@ -133,25 +135,16 @@ same_then a b c p q = q ∙ ap (λ (x : Opening). record x { waiting = c.waiting
 pub leaves_by : (o : Opening) (a : Ask) → asks (standing o) ≡ Some a → (talks : List (List ℕ) → Said) (b : List ℕ) → StandsIn talks b o → o.rest ≡ left talks b (length o.written)
 leaves_by o a e talks b st = rw st.talks_so (sym (left_is st.side b (standing o) a st.stands e))
 
+-- wherever it stands, it follows lines that were looked at
+pub leaves_looked : (o : Opening) (talks : List (List ℕ) → Said) (b : List ℕ) → StandsIn talks b o → FollowsLooked talks b (length o.written) o.rest
+leaves_looked o talks b st = rw st.talks_so (record { looked = o.count; few = st.stands.few; came = st.stands.came; passed = st.stands.passed; follows = st.stands.rest })
+
 module _ (Origin : Type 0) (wire : ℕ) where
-  keeps_then : (u v x : Outer Origin) → Keeps Origin wire u v → Keeps Origin wire v x → Keeps Origin wire u x
-  keeps_then u v x p q = record {
-    origin_stays = q.origin_stays ∙ p.origin_stays;
-    moment_stays = q.moment_stays ∙ p.moment_stays;
-    poller_stays = q.poller_stays ∙ p.poller_stays;
-    others_stay = λ w h. q.others_stay w h ∙ p.others_stay w h;
-    dials_stay = q.dials_stay ∙ p.dials_stay;
-    doors_stay = q.doors_stay ∙ p.doors_stay;
-  }
-
-  pub keeps_nothing : (u : Outer Origin) → Keeps Origin wire u u
-  keeps_nothing u = record { origin_stays = refl; moment_stays = refl; poller_stays = refl; others_stay = λ w h. refl; dials_stay = refl; doors_stay = refl }
-
   pub runs_on : (a b c : Opening) (u v x : Outer Origin) → RunsOpening Origin wire a b u v → RunsOpening Origin wire b c v x → RunsOpening Origin wire a c u x
   runs_on a b c u v x p q = record {
     runs = runs_then Opening StandsIn written_of wire a b c u.events v.events x.events p.runs q.runs;
     count_stays = q.count_stays ∙ p.count_stays;
-    keeps = keeps_then u v x p.keeps q.keeps;
+    keeps = keeps-then (part.Wire wire) u v x p.keeps q.keeps;
   }
 
   pub polls_on : (a b c : Opening) (u v x : Outer Origin) (answer : Step) → RunsOpening Origin wire a b u v → PollsOpening Origin wire b c v x answer → PollsOpening Origin wire a c u x answer
@@ -159,12 +152,12 @@ module _ (Origin : Type 0) (wire : ℕ) where
     polls = polls_then Opening StandsIn written_of wire a b c u.events v.events x.events answer p.runs q.polls;
     leaves = q.leaves;
     cause = subst (λ (n : ℕ). IoCounted answer n (x.wire_faults wire)) p.count_stays q.cause;
-    keeps = keeps_then u v x p.keeps q.keeps;
+    keeps = keeps-then (part.Wire wire) u v x p.keeps q.keeps;
   }
 
   -- one last move, and the answer
   pub alone : (o p : Opening) (u v : Outer Origin) (fs : List Event) (answer : Step) → MovesOpening wire o p u.events v.events fs → Concludes (Asks Opening StandsIn written_of p) wire answer fs
-      → Leaves Opening StandsIn written_of rest_of p answer → IoCounted answer (u.wire_faults wire) (v.wire_faults wire) → Keeps Origin wire u v → PollsOpening Origin wire o p u v answer
+      → Leaves Opening StandsIn written_of rest_of p answer → IoCounted answer (u.wire_faults wire) (v.wire_faults wire) → Keeps (part.Wire wire) u v → PollsOpening Origin wire o p u v answer
   alone o p u v fs answer m end rest cause keeps = record { polls = record { events = []; final = fs; moved = tt; moves = m; concludes = end }; leaves = rest; cause = cause; keeps = keeps }
 
   -- where such an answer to a send leaves the poll
@@ -178,11 +171,11 @@ module _ (Origin : Type 0) (wire : ℕ) where
   still_sends o h = asks_send o.stage o.waiting o.count o.rest o.written h
 
   sent_alone : (o p : Opening) (u v : Outer Origin) (piece : List ℕ) (x : Result Sent Fault) → 0 < length piece → IfOk x (IsSent (length piece)) → MovesOpening wire o p u.events v.events (send_told wire piece x) → SendsLess o.waiting p.waiting x
-      → Counted x (u.wire_faults wire) (v.wire_faults wire) → Keeps Origin wire u v → SentOn o p u v x
+      → Counted x (u.wire_faults wire) (v.wire_faults wire) → Keeps (part.Wire wire) u v → SentOn o p u v x
   sent_alone o p u v piece (Ok (sent.Took n)) some amount m less cause keeps = record { runs = record { events = send_told wire piece (Ok (sent.Took n)); moved = ((omega (arith, amount.0, some), amount.1), tt); moves = m }; count_stays = cause; keeps = keeps }
   sent_alone o p u v piece (Ok sent.NotReady) some amount m less cause keeps = alone o p u v _ step.WantWrite m (piece, refl) (leaves_by p _ (still_sends p less)) cause keeps
   sent_alone o p u v piece (Err fault.Failed) some amount m less cause keeps = alone o p u v _ (step.Done verdict.Io) m (inr (piece, refl)) (leaves_by p _ (still_sends p less)) cause keeps
-  sent_alone o p u v piece (Err fault.OutOfMemory) some amount m less cause keeps = alone o p u v _ step.OutOfMemory m refl tt cause keeps
+  sent_alone o p u v piece (Err fault.OutOfMemory) some amount m less cause keeps = alone o p u v _ step.OutOfMemory m refl (leaves_looked p) cause keeps
 
   after_run : (a b c : Opening) (u v x : Outer Origin) (r : Result Sent Fault) → RunsOpening Origin wire a b u v → SentOn b c v x r → SentOn a c u x r
   after_run a b c u v x (Ok (sent.Took n)) p q = runs_on a b c u v x p q
@@ -191,14 +184,14 @@ module _ (Origin : Type 0) (wire : ℕ) where
   after_run a b c u v x (Err fault.OutOfMemory) p q = polls_on a b c u v x _ p q
 
   pub sent_on : (a b c : Opening) (u v x : Outer Origin) (piece : List ℕ) (r : Result Sent Fault) → RunsOpening Origin wire a b u v → 0 < length piece → IfOk r (IsSent (length piece)) → MovesOpening wire b c v.events x.events (send_told wire piece r)
-      → SendsLess b.waiting c.waiting r → Counted r (v.wire_faults wire) (x.wire_faults wire) → Keeps Origin wire v x → SentOn a c u x r
+      → SendsLess b.waiting c.waiting r → Counted r (v.wire_faults wire) (x.wire_faults wire) → Keeps (part.Wire wire) v x → SentOn a c u x r
   sent_on a b c u v x piece r p some amount m less cause keeps = after_run a b c u v x r p (sent_alone b c v x piece r some amount m less cause keeps)
 
 -- bytes came
 stands_read : (talks : List (List ℕ) → Said) (b x : List ℕ) (o : Opening) → StandsIn talks b o → StandsIn talks (b ++ x) (record o { rest = o.rest ++ x })
 stands_read talks b x o st = record { side = st.side; talks_so = st.talks_so; steps_so = st.steps_so; stands = stands_got st.side b x (standing o) st.stands }
 
-moves_read : (wire : ℕ) (o p : Opening) (r s : Option (List Event)) (into : List ℕ) (x : Result Received Fault) → length into ≡ 1024 → asks (standing o) ≡ Some recv
+moves_read : (wire : ℕ) (o p : Opening) (r s : Option (List Event)) (into : List ℕ) (x : Result Received Fault) → length into ≡ read_size → asks (standing o) ≡ Some recv
     → s ≡ told r (recv_told wire into x) → p ≡ record o { rest = o.rest ++ flat_map bytes_got (recv_told wire into x) } → MovesOpening wire o p r s (recv_told wire into x)
 moves_read wire o p r s into x len e gained f = subst (λ (q : Opening). MovesOpening wire o q r s (recv_told wire into x)) (sym f) (record {
   gained = gained;
@@ -221,7 +214,7 @@ moves_read wire o p r s into x len e gained f = subst (λ (q : Opening). MovesOp
     nothing_taken (Err fault.Failed) = sym (append-nil o.written)
     nothing_taken (Err fault.OutOfMemory) = sym (append-nil o.written)
 
-less_left : (o p : Opening) (bytes : List ℕ) → length o.rest ≤ 16384 → 0 < length bytes → p ≡ record o { rest = o.rest ++ bytes } → left_over p < left_over o
+less_left : (o p : Opening) (bytes : List ℕ) → length o.rest ≤ line_limit → 0 < length bytes → p ≡ record o { rest = o.rest ++ bytes } → left_over p < left_over o
 less_left o p bytes few some f = rw f (omega (arith, length-append o.rest bytes, few, some))
 
 still_reads : (o p : Opening) → p ≡ record o { rest = o.rest ++ [] } → asks (standing o) ≡ Some recv → asks (standing p) ≡ Some recv
@@ -236,12 +229,12 @@ module _ (Origin : Type 0) (wire : ℕ) where
   ReadOn o p u v (Err fault.Failed) = PollsOpening Origin wire o p u v (step.Done verdict.Io)
   ReadOn o p u v (Err fault.OutOfMemory) = PollsOpening Origin wire o p u v step.OutOfMemory
 
-  sized : (into : List ℕ) (a : RecvAnswer) → length into ≡ 1024 → event.Recv wire (length into) a ∷ [] ≡ event.Recv wire 1024 a ∷ []
+  sized : (into : List ℕ) (a : RecvAnswer) → length into ≡ read_size → event.Recv wire (length into) a ∷ [] ≡ event.Recv wire read_size a ∷ []
   sized into a len = ap (λ (n : ℕ). event.Recv wire n a ∷ []) len
 
-  read_on : (o p : Opening) (u v : Outer Origin) (into : List ℕ) (x : Result Received Fault) → length into ≡ 1024 → length o.rest ≤ 16384 → IfOk x (IsReceived 1024) → asks (standing o) ≡ Some recv
+  read_on : (o p : Opening) (u v : Outer Origin) (into : List ℕ) (x : Result Received Fault) → length into ≡ read_size → length o.rest ≤ line_limit → IfOk x (IsReceived read_size) → asks (standing o) ≡ Some recv
       → v.events ≡ told u.events (recv_told wire into x) → p ≡ record o { rest = o.rest ++ flat_map bytes_got (recv_told wire into x) }
-      → Counted x (u.wire_faults wire) (v.wire_faults wire) → Keeps Origin wire u v → ReadOn o p u v x
+      → Counted x (u.wire_faults wire) (v.wire_faults wire) → Keeps (part.Wire wire) u v → ReadOn o p u v x
   read_on o p u v into (Ok (received.Got n)) len few bound e gained f cause keeps = (
     record { runs = record { events = recv_told wire into (Ok (received.Got n)); moved = ((omega (arith, length-take n into, bound.0, bound.1, len), omega (arith, length-take n into, bound.1)), tt); moves = moves_read wire o p u.events v.events into (Ok (received.Got n)) len e gained f }; count_stays = cause; keeps = keeps },
     less_left o p (take n into ++ []) few (omega (arith, ap length (append-nil (take n into)), length-take n into, bound.1, bound.0, len)) f,
@@ -253,11 +246,11 @@ module _ (Origin : Type 0) (wire : ℕ) where
   read_on o p u v into (Err fault.Failed) len few bound e gained f cause keeps =
       alone Origin wire o p u v _ (step.Done verdict.Io) (moves_read wire o p u.events v.events into (Err fault.Failed) len e gained f) (inl (sized into recv_answer.Failed len)) (leaves_by p recv (still_reads o p f e)) cause keeps
   read_on o p u v into (Err fault.OutOfMemory) len few bound e gained f cause keeps =
-      alone Origin wire o p u v _ step.OutOfMemory (moves_read wire o p u.events v.events into (Err fault.OutOfMemory) len e gained f) refl tt cause keeps
+      alone Origin wire o p u v _ step.OutOfMemory (moves_read wire o p u.events v.events into (Err fault.OutOfMemory) len e gained f) refl (leaves_looked p) cause keeps
 
-  pub read_told : (o p : Opening) (u v : Outer Origin) (x : Result Received Fault) → length o.rest ≤ 16384 → IfOk x (IsReceived 1024) → asks (standing o) ≡ Some recv
-      → (into : List ℕ) × (length into ≡ 1024) × (v.events ≡ told u.events (recv_told wire into x)) × (p ≡ record o { rest = o.rest ++ flat_map bytes_got (recv_told wire into x) })
-      → Counted x (u.wire_faults wire) (v.wire_faults wire) → Keeps Origin wire u v → ReadOn o p u v x
+  pub read_told : (o p : Opening) (u v : Outer Origin) (x : Result Received Fault) → length o.rest ≤ line_limit → IfOk x (IsReceived read_size) → asks (standing o) ≡ Some recv
+      → (into : List ℕ) × (length into ≡ read_size) × (v.events ≡ told u.events (recv_told wire into x)) × (p ≡ record o { rest = o.rest ++ flat_map bytes_got (recv_told wire into x) })
+      → Counted x (u.wire_faults wire) (v.wire_faults wire) → Keeps (part.Wire wire) u v → ReadOn o p u v x
   read_told o p u v x few bound e gained cause keeps = read_on o p u v gained.0 x gained.1 few bound e gained.2 gained.3 cause keeps
 
   -- the end is marked

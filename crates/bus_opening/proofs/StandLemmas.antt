@@ -4,6 +4,7 @@ use Rattle.std.specs.Prelude.{sum_by}
 use Rattle.std.proofs.lemmas.Bool.{ltb-false, ltb-true, le-ltb, lt-ltb}
 use Rattle.std.proofs.lemmas.List.{length-take, drop-drop, append-nil}
 use Rattle.std.proofs.lemmas.List.Sums.{sum_by-cons, sum_by-append}
+use Rattle.bus_opening.specs.Limits.{command_limit}
 use Rattle.bus_opening.specs.Lines.{lines, long, has_feed, feed_at, following}
 use Rattle.bus_opening.specs.Talk.{Status, Turn, goes, ends, onto, then_turn, turn_from, said_of, Side, turn_after, talk, Ask, send, piece_rest, ask_more, ask_by, ask_now, ask}
 use Rattle.bus_opening.specs.Standing.{rests, cut, pieces_of, Standing, Stands, ask_turn, asks}
@@ -95,16 +96,16 @@ pub ask_now_is : {Phase : Type 0} (side : Side Phase) (b : List ℕ) (w k j : �
 unfolding talk
 ask_now_is side b w k j = ask_of_turn (turn_after side (take j (lines b).whole)) w k (following j b)
 
-pub here_is : {Phase : Type 0} (side : Side Phase) (b : List ℕ) (o : Standing Phase) → Stands Phase side b o → ask_now (talk side) b (length o.written) (64 - o.count) o.count ≡ asks o
-here_is side b o s = ask_now_is side b (length o.written) (64 - o.count) o.count ∙ rw (s.turn, s.rest) refl
+pub here_is : {Phase : Type 0} (side : Side Phase) (b : List ℕ) (o : Standing Phase) → Stands Phase side b o → ask_now (talk side) b (length o.written) (command_limit - o.count) o.count ≡ asks o
+here_is side b o s = ask_now_is side b (length o.written) (command_limit - o.count) o.count ∙ rw (s.turn, s.rest) refl
 
 -- what a standing opening asks is what the definition asks
 pub asked : {Phase : Type 0} (side : Side Phase) (b : List ℕ) (o : Standing Phase) (a : Ask) → Stands Phase side b o → asks o ≡ Some a → ask (talk side) b (length o.written) ≡ a
 unfolding ask
 asked side b o a s e =
-    let skip = ask_from-skip o.count (talk side) b (length o.written) 64 0 s.few (λ i h. let z : 0 + i ≡ i = omega arith in rw z (s.passed i h)) in
+    let skip = ask_from-skip o.count (talk side) b (length o.written) command_limit 0 s.few (λ i h. let z : 0 + i ≡ i = omega arith in rw z (s.passed i h)) in
     let z : 0 + o.count ≡ o.count = omega arith in
-    rw (skip, z) (ask_from-now (talk side) b (length o.written) (64 - o.count) o.count a (here_is side b o s ∙ e))
+    rw (skip, z) (ask_from-now (talk side) b (length o.written) (command_limit - o.count) o.count a (here_is side b o s ∙ e))
 
 -- more bytes were taken
 cut-more : {Phase : Type 0} (t : Turn Phase) (w n : ℕ) → cut (w + n) t ≡ cut n (cut w t)
@@ -126,7 +127,7 @@ stands_taken side b o bytes le s =
       rest = s.rest;
       turn = rw n (ap (cut (length bytes)) s.turn ∙ sym (cut-more t (length o.written) (length bytes)));
       said = omega (arith, n, le, ap (λ (u : Turn _). sum_by length (pieces_of u)) s.turn, cut-left t (length o.written), s.said);
-      passed = λ i h. ask_now-later (talk side) b (length o.written) (length (o.written ++ bytes)) (64 - i) i (omega (arith, n)) (s.passed i h);
+      passed = λ i h. ask_now-later (talk side) b (length o.written) (length (o.written ++ bytes)) (command_limit - i) i (omega (arith, n)) (s.passed i h);
     }
 
 -- more bytes came
@@ -142,7 +143,7 @@ stands_got side b x o s =
       rest = ap (λ (y : List ℕ). y ++ x) s.rest ∙ sym (following-more o.count b x s.came);
       turn = rw first s.turn;
       said = rw first s.said;
-      passed = λ i h. ask_now-more (talk side) b x (length o.written) (64 - i) i (omega (arith, s.came)) (s.passed i h);
+      passed = λ i h. ask_now-more (talk side) b x (length o.written) (command_limit - i) i (omega (arith, s.came)) (s.passed i h);
     }
 
 -- a line was looked at
@@ -192,16 +193,16 @@ before_or_last i j h = by_test (ltb i j) refl
     by_test true e = inl (ltb-true _ _ e)
     by_test false e = inr (omega (arith, ltb-false _ _ e, h))
 
-looks : {Phase : Type 0} (t : Turn Phase) (phase : Phase) (count : ℕ) (rest : List ℕ) → t ≡ goes [] phase → count < 64 → long rest ≡ false → has_feed rest ≡ true → ask_turn t (64 - count) rest ≡ None
+looks : {Phase : Type 0} (t : Turn Phase) (phase : Phase) (count : ℕ) (rest : List ℕ) → t ≡ goes [] phase → count < command_limit → long rest ≡ false → has_feed rest ≡ true → ask_turn t (command_limit - count) rest ≡ None
 looks t phase count rest e few short feed =
-    let k : 64 - count ≡ suc (63 - count) = omega arith in
+    let k : command_limit - count ≡ suc (63 - count) = omega arith in
     rw (e, k, short, feed) refl
 
-by_place : {Phase : Type 0} (side : Side Phase) (b : List ℕ) (w i j : ℕ) → (i < j) ⊎ (i ≡ j) → ask_now (talk side) b w (64 - j) j ≡ None → ((i : ℕ) → i < j → ask_now (talk side) b w (64 - i) i ≡ None) → ask_now (talk side) b w (64 - i) i ≡ None
+by_place : {Phase : Type 0} (side : Side Phase) (b : List ℕ) (w i j : ℕ) → (i < j) ⊎ (i ≡ j) → ask_now (talk side) b w (command_limit - j) j ≡ None → ((i : ℕ) → i < j → ask_now (talk side) b w (command_limit - i) i ≡ None) → ask_now (talk side) b w (command_limit - i) i ≡ None
 by_place side b w i j (inl lt) here before = before i lt
 by_place side b w i j (inr e) here before = rw e here
 
-pub stands_looked : {Phase : Type 0} (side : Side Phase) (b : List ℕ) (o : Standing Phase) (phase : Phase) → o.turn ≡ goes [] phase → o.count < 64 → long o.rest ≡ false → has_feed o.rest ≡ true
+pub stands_looked : {Phase : Type 0} (side : Side Phase) (b : List ℕ) (o : Standing Phase) (phase : Phase) → o.turn ≡ goes [] phase → o.count < command_limit → long o.rest ≡ false → has_feed o.rest ≡ true
     → Stands Phase side b o → Stands Phase side b (record o { turn = cut 0 (side.step phase (take (feed_at o.rest + 1) o.rest)); count = o.count + 1; rest = drop (feed_at o.rest + 1) o.rest })
 stands_looked side b o phase e few short feed s =
     let n = next_line o.count b o.rest s.rest s.came (ltb-true _ _ feed) in
@@ -211,7 +212,7 @@ stands_looked side b o phase e few short feed s =
     let m : feed_at o.rest + 1 ≡ suc (feed_at o.rest) = omega arith in
     let after : turn_after side (take (suc o.count) (lines b).whole) ≡ then_turn t (λ p. side.step p line) = ap (turn_after side) n.first ∙ turn_after-append side (take o.count (lines b).whole) line in
     let c = cut-then t (length o.written) phase (λ p. side.step p line) (sym e ∙ s.turn) s.said in
-    let here : ask_now (talk side) b (length o.written) (64 - o.count) o.count ≡ None = here_is side b o s ∙ looks o.turn phase o.count o.rest e few short feed in
+    let here : ask_now (talk side) b (length o.written) (command_limit - o.count) o.count ≡ None = here_is side b o s ∙ looks o.turn phase o.count o.rest e few short feed in
     record {
       few = omega arith;
       came = omega (arith, n.within);

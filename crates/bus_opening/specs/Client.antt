@@ -1,5 +1,5 @@
 -- The client's side of the conversation (D-Bus specification, Authentication Protocol).
-use Rattle.std.specs.Prelude.{ℕ, Bool, true, false, not, ◌&&◌, ◌==◌, if◌then◌else◌, List, [], ◌∷◌, ◌++◌, codes, length, take, slice_index, Option, Some, None, unwrap_or, ◌-◌}
+use Rattle.std.specs.Prelude.{ℕ, Bool, true, false, not, ◌&&◌, ◌==◌, if◌then◌else◌, List, [], ◌∷◌, ◌++◌, codes, length, take, slice_index, Option, Some, None, unwrap_or}
 use Rattle.std.specs.Str.{bytes_eq, is_utf8}
 use Rattle.std.specs.Fmt.{decimal}
 use Rattle.bus_opening.specs.Hexadecimal.{hexadecimal}
@@ -43,11 +43,14 @@ pub data Phase : Type 0 where
 abbrev pub end : List ℕ
 end = 13 ∷ 10 ∷ []
 
--- what a line says: CR before the line feed, and text before them
+-- what a line says: CR before the line feed, and text before them; a line feed at place 0 has nothing before it
 abbrev pub text_of_line : List ℕ → Option (List ℕ)
-text_of_line line =
-    let text = take (length line - 2) line in
-    if (slice_index line (length line - 2) == 13) && is_utf8 text then Some text else None
+text_of_line [] = None
+text_of_line (feed ∷ []) = None
+text_of_line (c ∷ d ∷ more) =
+    let line = c ∷ d ∷ more in
+    let text = take (length more) line in
+    if (slice_index line (length more) == 13) && is_utf8 text then Some text else None
 
 abbrev pub auth_line : AuthMechanism → ℕ → List ℕ
 auth_line External user = codes "AUTH EXTERNAL " ++ hexadecimal (decimal user)

@@ -1,3 +1,4 @@
+pub mod Limits
 pub mod Mechanisms
 pub mod Words
 pub mod Hexadecimal
@@ -7,7 +8,6 @@ pub mod Lines
 pub mod Talk
 pub mod Client
 pub mod Server
-pub mod Outer
 pub mod Polling
 pub mod Standing
 pub mod Inboxes
@@ -19,5 +19,5 @@ pub mod OpeningFields
 pub mod AfterSent
 pub mod Nexts
 pub mod Ends
-pub mod Replies
+pub mod ClientReplies
 pub mod ServerReplies

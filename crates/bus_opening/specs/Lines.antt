@@ -1,6 +1,7 @@
 -- The lines of what came, each with its line feed, and the rest.
 use Rattle.std.specs.Prelude.{ℕ, Bool, ◌==◌, nat_lt, if◌then◌else◌, List, [], ◌∷◌, length, take, drop, sum_by}
 use Rattle.std.specs.List.{position_or_len}
+use Rattle.bus_opening.specs.Limits.{line_limit}
 
 pub record Lines : Type 0 where
   pub whole : List (List ℕ)
@@ -25,9 +26,9 @@ feed_at bytes = position_or_len (λ c. c == 10) bytes
 abbrev pub has_feed : List ℕ → Bool
 has_feed bytes = nat_lt (feed_at bytes) (length bytes)
 
--- at least 16385 bytes, the first 16385 of them no line feeds
+-- more bytes than a line may have, the first ones of them no line feeds
 abbrev pub long : List ℕ → Bool
-long bytes = nat_lt 16384 (feed_at bytes)
+long bytes = nat_lt line_limit (feed_at bytes)
 
 -- what follows the first j lines
 abbrev pub following : ℕ → List ℕ → List ℕ

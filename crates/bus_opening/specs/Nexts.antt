@@ -1,5 +1,6 @@
 -- What is to be done where nothing waits.
 use Rattle.std.specs.Prelude.{◌≡◌, ℕ, ◌<◌, ◌≤◌, length, Some, IsSome}
+use Rattle.bus_opening.specs.Limits.{command_limit, line_limit}
 use Rattle.bus_opening.specs.Lines.{feed_at}
 use Rattle.bus_opening.specs.Talk.{opens, handshake, line_too_long, too_many_commands, recv}
 use Rattle.bus_opening.specs.declared.verdict.Verdict.TheVariants as verdict
@@ -13,9 +14,9 @@ use Rattle.bus_opening.specs.Openings.{Opening, standing}
 pub record MayLook (o : Opening) (feed : ℕ) : Type 0 where
   pub open_yet : IsSome (place_of o.stage)
   pub quiet : length o.waiting ≡ 0
-  pub few : o.count < 64
+  pub few : o.count < command_limit
   pub at_feed : feed ≡ feed_at o.rest
-  pub short : feed ≤ 16384
+  pub short : feed ≤ line_limit
   pub whole : feed < length o.rest
 
 abbrev pub NextIs : Opening → Next → Type 0
@@ -25,4 +26,4 @@ NextIs o (next.Ends verdict.Io) = ⊥
 NextIs o (next.Ends verdict.LineTooLong) = asks (standing o) ≡ Some line_too_long
 NextIs o (next.Ends verdict.TooManyCommands) = asks (standing o) ≡ Some too_many_commands
 NextIs o (next.Look feed) = MayLook o feed
-NextIs o next.Read = (asks (standing o) ≡ Some recv) × (length o.rest ≤ 16384)
+NextIs o next.Read = (asks (standing o) ≡ Some recv) × (length o.rest ≤ line_limit)

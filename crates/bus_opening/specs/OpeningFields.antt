@@ -1,5 +1,6 @@
 -- The fields of an exchange.
 use Rattle.std.specs.Prelude.{◌≤◌}
+use Rattle.bus_opening.specs.Limits.{command_limit}
 use Rattle.bus_opening.specs.Openings.{Opening}
 use Rattle.bus_opening.specs.declared.exchange.Exchange.TheInside.{Inside}
 
@@ -15,4 +16,4 @@ opening_of a = record {
 }
 
 pub record IsFew (a : Inside) : Type 0 where
-  pub commands : a.commands ≤ 64
+  pub commands : a.commands ≤ command_limit

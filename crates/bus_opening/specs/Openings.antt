@@ -1,5 +1,6 @@
 -- Where an opening stands.
 use Rattle.std.specs.Prelude.{◌≡◌, Bool, ℕ, ◌+◌, ◌-◌, ◌*◌, List, length, take, drop, sum_by, Option, Some}
+use Rattle.bus_opening.specs.Limits.{command_limit, buffer_limit}
 use Rattle.bus_opening.specs.Lines.{feed_at}
 use Rattle.bus_opening.specs.Talk.{Said, Side, talk}
 use Rattle.bus_opening.specs.Parts.{Place, step_at, turn_of, place_of}
@@ -8,7 +9,8 @@ use Rattle.bus_opening.specs.declared.part.Part.{Part}
 use Rattle.react_core.specs.declared.outside.Event.{Event}
 use Rattle.bus_opening.specs.declared.verdict.Step.{Step}
 use Rattle.bus_opening.specs.Standing.{cut, Standing, Stands}
-use Rattle.bus_opening.specs.Outer.{Outer, Keeps}
+use Rattle.react_core.specs.Outer.{Outer, Keeps}
+use Rattle.react_core.specs.Outer as part
 use Rattle.bus_opening.specs.Polling.{Moves, Runs, Polls, Leaves, IoCounted}
 
 -- what its answers rest on, the phase or the end, the pieces that wait, how many lines were looked at, what came behind
@@ -52,14 +54,14 @@ MovesOpening wire old new before after events = Moves Opening StandsIn written_o
 pub record RunsOpening (Origin : Type 0) (wire : ℕ) (old new : Opening) (before after : Outer Origin) : Type 0 where
   pub runs : Runs Opening StandsIn written_of wire old new before.events after.events
   pub count_stays : after.wire_faults wire ≡ before.wire_faults wire
-  pub keeps : Keeps Origin wire before after
+  pub keeps : Keeps (part.Wire wire) before after
 
 -- some events, and an answer
 pub record PollsOpening (Origin : Type 0) (wire : ℕ) (old new : Opening) (before after : Outer Origin) (answer : Step) : Type 0 where
   pub polls : Polls Opening StandsIn written_of wire old new before.events after.events answer
   pub leaves : Leaves Opening StandsIn written_of rest_of new answer
   pub cause : IoCounted answer (before.wire_faults wire) (after.wire_faults wire)
-  pub keeps : Keeps Origin wire before after
+  pub keeps : Keeps (part.Wire wire) before after
 
 -- how much is to be sent
 abbrev pub pending : Opening → ℕ
@@ -75,7 +77,7 @@ pub record Looked (place : Place) (old new : Opening) : Type 0 where
 
 -- how many lines and bytes may still be looked at
 abbrev pub left_over : Opening → ℕ
-left_over o = (64 - o.count) * 17409 + (17408 - length o.rest)
+left_over o = (command_limit - o.count) * (buffer_limit + 1) + (buffer_limit - length o.rest)
 
 abbrev pub Looks : Opening → Opening → Type 0
 Looks old new = (place : Place) × (place_of old.stage ≡ Some place) × Looked place old new

@@ -1,5 +1,6 @@
 -- Where an opening stands, for every history that leads to it.
 use Rattle.std.specs.Prelude.{◌≡◌, ℕ, ◌-◌, ◌<◌, ◌≤◌, nat_lt, if◌then◌else◌, List, [], ◌∷◌, length, take, drop, sum_by, Option, Some, None}
+use Rattle.bus_opening.specs.Limits.{command_limit}
 use Rattle.bus_opening.specs.Lines.{lines, following}
 use Rattle.bus_opening.specs.Talk.{Turn, goes, ends, Side, turn_after, talk, Ask, send, ask_more, ask_by, ask_now}
 
@@ -25,12 +26,12 @@ pub record Standing (Phase : Type 0) : Type 0 where
 
 -- Over the bytes b, of whose answer the written bytes were taken, the opening stands here.
 pub record Stands (Phase : Type 0) (side : Side Phase) (b : List ℕ) (o : Standing Phase) : Type 0 where
-  pub few : o.count ≤ 64
+  pub few : o.count ≤ command_limit
   pub came : o.count ≤ length (lines b).whole
   pub rest : o.rest ≡ following o.count b
   pub turn : o.turn ≡ cut (length o.written) (turn_after side (take o.count (lines b).whole))
   pub said : length o.written ≤ sum_by length (pieces_of (turn_after side (take o.count (lines b).whole)))
-  pub passed : (i : ℕ) → i < o.count → ask_now (talk side) b (length o.written) (64 - i) i ≡ None
+  pub passed : (i : ℕ) → i < o.count → ask_now (talk side) b (length o.written) (command_limit - i) i ≡ None
 
 -- what is asked where that is to be sent, k more lines may be looked at, and that was not looked at; none where a line is to be looked at
 abbrev pub ask_turn : {Phase : Type 0} → Turn Phase → ℕ → List ℕ → Option Ask
@@ -40,4 +41,4 @@ ask_turn (ends [] status) k rest = ask_by status k rest
 ask_turn (ends (piece ∷ pieces) status) k rest = Some (send piece)
 
 abbrev pub asks : {Phase : Type 0} → Standing Phase → Option Ask
-asks o = ask_turn o.turn (64 - o.count) o.rest
+asks o = ask_turn o.turn (command_limit - o.count) o.rest

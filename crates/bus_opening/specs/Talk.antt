@@ -1,5 +1,6 @@
 -- A conversation: what is to be sent after each line, and what is asked next.
 use Rattle.std.specs.Prelude.{ℕ, ◌+◌, ◌-◌, zero, suc, Bool, nat_lt, if◌then◌else◌, List, [], ◌∷◌, ◌++◌, length, take, drop, sum_by, Option, Some, None, is_some}
+use Rattle.bus_opening.specs.Limits.{command_limit}
 use Rattle.bus_opening.specs.Lines.{lines, long, has_feed, following}
 
 -- how far a conversation has come; a GUID goes by its text
@@ -90,7 +91,7 @@ ask_from talk b w zero j = first_of (ask_now talk b w zero j) (λ u. too_many_co
 ask_from talk b w (suc k) j = first_of (ask_now talk b w (suc k) j) (λ u. ask_from talk b w k (j + 1))
 
 unfoldable pub ask : (List (List ℕ) → Said) → List ℕ → ℕ → Ask
-ask talk b w = ask_from talk b w 64 0
+ask talk b w = ask_from talk b w command_limit 0
 
 -- how many lines were looked at when that is asked
 unfoldable pub looked_from : (List (List ℕ) → Said) → List ℕ → ℕ → ℕ → ℕ → ℕ
@@ -99,4 +100,4 @@ looked_from talk b w (suc k) j = if is_some (ask_now talk b w (suc k) j) then j 
 
 -- what was got and not looked at
 unfoldable pub left : (List (List ℕ) → Said) → List ℕ → ℕ → List ℕ
-left talk b w = following (looked_from talk b w 64 0) b
+left talk b w = following (looked_from talk b w command_limit 0) b

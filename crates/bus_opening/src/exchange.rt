@@ -4,13 +4,15 @@ ghost use Rattle.std.specs.Prelude.{◌≡◌, ◌<◌, ◌≤◌, ◌++◌, ◌
 ghost use Rattle.std.specs.List.{flat_map};
 ghost use Rattle.react_core.specs.Told.{told, recv_told, send_told, Counted, IsReceived, IsSent};
 ghost use Rattle.bus_opening.specs.AfterSent.{after_sent, SendsLess};
+ghost use Rattle.bus_opening.specs.Limits.{line_limit, read_size, buffer_limit};
 ghost use Rattle.bus_opening.specs.Ends.{end_of};
 ghost use Rattle.bus_opening.specs.Outboxes.{Sending, first_piece};
-ghost use Rattle.bus_opening.specs.Outer.{Outer, Keeps};
+ghost use Rattle.react_core.specs.Outer.{Keeps};
+ghost use Rattle.react_core.specs.Outer as part;
 
 use crate::inbox::Inbox;
+use crate::limits::{COMMAND_LIMIT, LINE_LIMIT};
 use crate::outbox::Outbox;
-use crate::outer::Observed;
 use crate::part::{Part, reply};
 use crate::verdict::{Authenticated, Step, Verdict};
 use bus_address::Guid;
@@ -93,11 +95,11 @@ enum Next {
 fn send_rest<W: Wire>(outbox: &mut Outbox, outside: &mut W, wire: u32) -> Result<Sent, Fault>
     requires { 0 < length outbox.old.waiting }
     ensures after { outbox.new ≡ after_sent outbox.old result }
-    ensures told { W.events outside.new ≡ told (W.events outside.old) (send_told wire (first_piece outbox.old.waiting) result) }
+    ensures told { (W.outer outside.new).events ≡ told (W.outer outside.old).events (send_told wire (first_piece outbox.old.waiting) result) }
     ensures amount { IfOk result (IsSent (length (first_piece outbox.old.waiting))) }
     ensures some { 0 < length (first_piece outbox.old.waiting) }
-    ensures cause { Counted result (W.wire_faults outside.old wire) (W.wire_faults outside.new wire) }
-    ensures keeps { Keeps W.Origin wire (⟦<W as Observed>⟧.outer outside.old) (⟦<W as Observed>⟧.outer outside.new) }
+    ensures cause { Counted result ((W.outer outside.old).wire_faults wire) ((W.outer outside.new).wire_faults wire) }
+    ensures keeps { Keeps (part.Wire wire) (W.outer outside.old) (W.outer outside.new) }
 {
     let sent = outside.send(wire, outbox.offer());
     if let Ok(Sent::Took(count)) = sent {
@@ -137,21 +139,21 @@ impl Exchange {
 
     fn send_rest<W: Wire>(&mut self, outside: &mut W, wire: u32) -> Result<Sent, Fault>
         requires { 0 < length self.old.waiting }
-        ensures moves { MovesOpening wire self.old self.new (W.events outside.old) (W.events outside.new) (send_told wire (first_piece self.old.waiting) result) }
+        ensures moves { MovesOpening wire self.old self.new (W.outer outside.old).events (W.outer outside.new).events (send_told wire (first_piece self.old.waiting) result) }
         ensures amount { IfOk result (IsSent (length (first_piece self.old.waiting))) }
         ensures some { 0 < length (first_piece self.old.waiting) }
         ensures less { SendsLess self.old.waiting self.new.waiting result }
         ensures same { self.new ≡ record self.old { waiting = self.new.waiting; written = self.new.written } }
-        ensures cause { Counted result (W.wire_faults outside.old wire) (W.wire_faults outside.new wire) }
-        ensures keeps { Keeps W.Origin wire (⟦<W as Observed>⟧.outer outside.old) (⟦<W as Observed>⟧.outer outside.new) }
+        ensures cause { Counted result ((W.outer outside.old).wire_faults wire) ((W.outer outside.new).wire_faults wire) }
+        ensures keeps { Keeps (part.Wire wire) (W.outer outside.old) (W.outer outside.new) }
     {
         send_rest(&mut self.outbox, outside, wire)
     }
 
     // Sends until nothing waits, or the wire stops.
     fn flush<W: Wire>(&mut self, outside: &mut W, wire: u32) -> Option<Step>
-        ensures run { MatchOption result (RunsOpening W.Origin wire self.old self.new (⟦<W as Observed>⟧.outer outside.old) (⟦<W as Observed>⟧.outer outside.new) × (length self.new.waiting ≡ 0))
-            (λ s. PollsOpening W.Origin wire self.old self.new (⟦<W as Observed>⟧.outer outside.old) (⟦<W as Observed>⟧.outer outside.new) s) }
+        ensures run { MatchOption result (RunsOpening W.Origin wire self.old self.new (W.outer outside.old) (W.outer outside.new) × (length self.new.waiting ≡ 0))
+            (λ s. PollsOpening W.Origin wire self.old self.new (W.outer outside.old) (W.outer outside.new) s) }
         ensures same { self.new ≡ record self.old { waiting = self.new.waiting; written = self.new.written } }
     {
         while self.is_waiting() {
@@ -166,22 +168,22 @@ impl Exchange {
     }
 
     fn recv<W: Wire>(&mut self, outside: &mut W, wire: u32) -> Result<Received, Fault>
-        requires few { length self.old.rest ≤ 16384 }
-        ensures amount { IfOk result (IsReceived 1024) }
-        ensures told { (into : List ℕ) × (length into ≡ 1024) × (W.events outside.new ≡ told (W.events outside.old) (recv_told wire into result))
+        requires few { length self.old.rest ≤ line_limit }
+        ensures amount { IfOk result (IsReceived read_size) }
+        ensures told { (into : List ℕ) × (length into ≡ read_size) × ((W.outer outside.new).events ≡ told (W.outer outside.old).events (recv_told wire into result))
             × (self.new ≡ record self.old { rest = self.old.rest ++ flat_map bytes_got (recv_told wire into result) }) }
-        ensures cause { Counted result (W.wire_faults outside.old wire) (W.wire_faults outside.new wire) }
-        ensures keeps { Keeps W.Origin wire (⟦<W as Observed>⟧.outer outside.old) (⟦<W as Observed>⟧.outer outside.new) }
+        ensures cause { Counted result ((W.outer outside.old).wire_faults wire) ((W.outer outside.new).wire_faults wire) }
+        ensures keeps { Keeps (part.Wire wire) (W.outer outside.old) (W.outer outside.new) }
     {
         self.inbox.recv(outside, wire)
     }
 
     // Reads on, where that is asked.
     fn read<W: Wire>(&mut self, outside: &mut W, wire: u32) -> Option<Step>
-        requires few { length self.old.rest ≤ 16384 }
+        requires few { length self.old.rest ≤ line_limit }
         requires asked { asks (standing self.old) ≡ Some recv }
-        ensures run { MatchOption result (RunsOpening W.Origin wire self.old self.new (⟦<W as Observed>⟧.outer outside.old) (⟦<W as Observed>⟧.outer outside.new) × (left_over self.new < left_over self.old))
-            (λ s. PollsOpening W.Origin wire self.old self.new (⟦<W as Observed>⟧.outer outside.old) (⟦<W as Observed>⟧.outer outside.new) s) }
+        ensures run { MatchOption result (RunsOpening W.Origin wire self.old self.new (W.outer outside.old) (W.outer outside.new) × (left_over self.new < left_over self.old))
+            (λ s. PollsOpening W.Origin wire self.old self.new (W.outer outside.old) (W.outer outside.new) s) }
     {
         match self.recv(outside, wire) {
             Ok(Received::Got(_)) => None,
@@ -201,11 +203,11 @@ impl Exchange {
         if let Some(verdict) = end_of(self.stage) {
             return Next::Ends(verdict);
         }
-        if self.commands == 64 {
+        if self.commands == COMMAND_LIMIT {
             return Next::Ends(Verdict::TooManyCommands);
         }
         let feed = self.inbox.feed();
-        if feed > 16384 {
+        if feed > LINE_LIMIT {
             return Next::Ends(Verdict::LineTooLong);
         }
         if feed < self.inbox.as_slice().len() {
@@ -232,8 +234,8 @@ impl Exchange {
     // One more step where nothing waits.
     fn proceed<W: Wire>(&mut self, alloc: Global, outside: &mut W, wire: u32) -> Option<Step>
         requires { length self.old.waiting ≡ 0 }
-        ensures run { MatchOption result (RunsOpening W.Origin wire self.old self.new (⟦<W as Observed>⟧.outer outside.old) (⟦<W as Observed>⟧.outer outside.new) × (left_over self.new < left_over self.old))
-            (λ s. PollsOpening W.Origin wire self.old self.new (⟦<W as Observed>⟧.outer outside.old) (⟦<W as Observed>⟧.outer outside.new) s) }
+        ensures run { MatchOption result (RunsOpening W.Origin wire self.old self.new (W.outer outside.old) (W.outer outside.new) × (left_over self.new < left_over self.old))
+            (λ s. PollsOpening W.Origin wire self.old self.new (W.outer outside.old) (W.outer outside.new) s) }
     {
         match self.next() {
             Next::Ends(verdict) => Some(Step::Done(verdict)),
@@ -247,7 +249,7 @@ impl Exchange {
 
     // Asks the wire until it isn't ready or the conversation ends.
     fn converse<W: Wire>(&mut self, alloc: Global, outside: &mut W, wire: u32) -> Step
-        ensures run { PollsOpening W.Origin wire self.old self.new (⟦<W as Observed>⟧.outer outside.old) (⟦<W as Observed>⟧.outer outside.new) result }
+        ensures run { PollsOpening W.Origin wire self.old self.new (W.outer outside.old) (W.outer outside.new) result }
     {
         loop {
             if let Some(step) = self.flush(outside, wire) {
@@ -262,16 +264,11 @@ impl Exchange {
     /// Asks the wire until it isn't ready or the opening ends.
     pub(crate) fn poll<W: Wire>(&mut self, alloc: Global, outside: &mut W, wire: u32) -> Step
         requires open { self.old.ended ≡ false }
-        ensures polls { Polls Opening StandsIn written_of wire self.old self.new (W.events outside.old) (W.events outside.new) result }
+        ensures polls { Polls Opening StandsIn written_of wire self.old self.new (W.outer outside.old).events (W.outer outside.new).events result }
         ensures leaves { Leaves Opening StandsIn written_of rest_of self.new result }
         ensures ended { self.new.ended ≡ is_end result }
-        ensures cause { IoCounted result (W.wire_faults outside.old wire) (W.wire_faults outside.new wire) }
-        ensures others { SameBut wire (W.wire_faults outside.old) (W.wire_faults outside.new) }
-        ensures origin { W.origin outside.new ≡ W.origin outside.old }
-        ensures moment { W.moment outside.new ≡ W.moment outside.old }
-        ensures poller { W.poller_faults outside.new ≡ W.poller_faults outside.old }
-        ensures dials { W.dial_faults outside.new ≡ W.dial_faults outside.old }
-        ensures doors { W.doors outside.new ≡ W.doors outside.old }
+        ensures cause { IoCounted result ((W.outer outside.old).wire_faults wire) ((W.outer outside.new).wire_faults wire) }
+        ensures keeps { Keeps (part.Wire wire) (W.outer outside.old) (W.outer outside.new) }
     {
         let step = self.converse(alloc, outside, wire);
         self.ended = matches!(step, Step::Done(_));
@@ -286,7 +283,7 @@ impl Exchange {
 
     pub(crate) fn leftover(&self) -> &[u8]
         ensures rest { result.now ≡ self.now.rest }
-        ensures few { length result.now ≤ 17408 }
+        ensures few { length result.now ≤ buffer_limit }
     {
         self.inbox.as_slice()
     }

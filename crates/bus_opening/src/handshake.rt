@@ -1,8 +1,10 @@
 //! One side of an opening, whichever it is.
 
 ghost use Rattle.std.specs.Prelude.{◌≡◌, ◌≤◌, ℕ, Bool, false, List, length};
-ghost use Rattle.react_core.specs.Told.{SameBut};
+ghost use Rattle.react_core.specs.Outer.{Keeps};
+ghost use Rattle.react_core.specs.Outer as part;
 ghost use Rattle.bus_opening.specs.Polling.{Polls, Leaves, IoCounted, is_end};
+ghost use Rattle.bus_opening.specs.Limits.{buffer_limit};
 ghost use Rattle.bus_opening.specs.Talk.{Said};
 
 use crate::verdict::Step;
@@ -27,16 +29,11 @@ pub trait Handshake {
     /// of the wire left it, and may be polled again.
     fn poll<W: Wire>(&mut self, alloc: Global, outside: &mut W, wire: u32) -> Step
         requires open { ended self.old ≡ false }
-        ensures polls { Polls Self stands written wire self.old self.new (W.events outside.old) (W.events outside.new) result }
+        ensures polls { Polls Self stands written wire self.old self.new (W.outer outside.old).events (W.outer outside.new).events result }
         ensures leaves { Leaves Self stands written unlooked self.new result }
         ensures ended { ended self.new ≡ is_end result }
-        ensures cause { IoCounted result (W.wire_faults outside.old wire) (W.wire_faults outside.new wire) }
-        ensures others { SameBut wire (W.wire_faults outside.old) (W.wire_faults outside.new) }
-        ensures origin { W.origin outside.new ≡ W.origin outside.old }
-        ensures moment { W.moment outside.new ≡ W.moment outside.old }
-        ensures poller { W.poller_faults outside.new ≡ W.poller_faults outside.old }
-        ensures dials { W.dial_faults outside.new ≡ W.dial_faults outside.old }
-        ensures doors { W.doors outside.new ≡ W.doors outside.old };
+        ensures cause { IoCounted result ((W.outer outside.old).wire_faults wire) ((W.outer outside.new).wire_faults wire) }
+        ensures keeps { Keeps (part.Wire wire) (W.outer outside.old) (W.outer outside.new) };
 
     /// What the wire took, a nonce included.
     fn written(&self) -> &[u8]
@@ -45,7 +42,7 @@ pub trait Handshake {
     /// What came behind the last line that was looked at: at most one line of the greatest length and one read.
     fn leftover(&self) -> &[u8]
         ensures rest { result.now ≡ unlooked self.now }
-        ensures few { length result.now ≤ 17408 };
+        ensures few { length result.now ≤ buffer_limit };
 
     /// Whether a poll has answered the end.
     fn is_done(&self) -> bool

@@ -1,15 +1,18 @@
 //! Bytes that came and were not looked at.
 
-ghost use Rattle.std.specs.Prelude.{◌≡◌, ◌==◌, ◌≤◌, ◌-◌, ◌++◌, List, [], ℕ, length, take, drop, position, IfOk};
+ghost use Rattle.std.specs.Prelude.{◌≡◌, ◌==◌, ◌≤◌, ◌+◌, ◌-◌, ◌++◌, List, [], ℕ, length, take, drop, position, IfOk, OnOk};
 ghost use Rattle.std.specs.List.{flat_map};
+ghost use Rattle.std.specs.Vec.{vec_capacity};
+ghost use Rattle.bus_opening.specs.Limits.{line_limit, read_size, buffer_limit};
 ghost use Rattle.bus_opening.specs.Lines.{feed_at};
 ghost use Rattle.react_core.specs.Told.{told, recv_told, Counted, IsReceived};
-ghost use Rattle.bus_opening.specs.Outer.{Outer, Keeps};
+ghost use Rattle.react_core.specs.Outer.{Keeps};
+ghost use Rattle.react_core.specs.Outer as part;
 ghost use Rattle.bus_opening.specs.Polling.{bytes_got};
 
-use crate::outer::Observed;
+use crate::limits::{BUFFER_LIMIT, READ_SIZE};
 use react_core::outside::{Fault, Received, Wire};
-use std::alloc::Global;
+use std::alloc::{AllocError, Global};
 use std::marker::Model;
 
 /// What came and was not looked at.
@@ -49,7 +52,7 @@ fn feed_len(bytes: &[u8]) -> usize
 // The same, where none stands among the first ones.
 fn feed_from(bytes: &[u8], searched: usize) -> usize
     requires searched { searched ≤ feed_at bytes.now }
-    requires few { length bytes.now ≤ 17408 }
+    requires few { length bytes.now ≤ buffer_limit }
     ensures { result ≡ feed_at bytes.now }
 {
     searched + feed_len(&bytes[searched..])
@@ -58,7 +61,8 @@ fn feed_from(bytes: &[u8], searched: usize) -> usize
 // Lets the first bytes go.
 fn remove_front(bytes: &mut Vec<u8>, count: usize)
     requires { count ≤ length bytes.old.items }
-    ensures { bytes.new.items ≡ drop count bytes.old.items }
+    ensures items { bytes.new.items ≡ drop count bytes.old.items }
+    ensures room { vec_capacity bytes.new ≡ vec_capacity bytes.old }
 {
     if count == 0 {
         return;
@@ -68,25 +72,66 @@ fn remove_front(bytes: &mut Vec<u8>, count: usize)
     bytes.truncate(len - count);
 }
 
-// Reads up to 1024 bytes behind those that are there.
-fn receive<W: Wire>(bytes: &mut Vec<u8>, outside: &mut W, wire: u32) -> Result<Received, Fault>
-    requires { length bytes.old.items ≤ 16384 }
-    ensures amount { IfOk result (IsReceived 1024) }
-    ensures told { (into : List ℕ) × (length into ≡ 1024) × (W.events outside.new ≡ told (W.events outside.old) (recv_told wire into result))
-        × (bytes.new.items ≡ bytes.old.items ++ flat_map bytes_got (recv_told wire into result)) }
-    ensures cause { Counted result (W.wire_faults outside.old wire) (W.wire_faults outside.new wire) }
-    ensures keeps { Keeps W.Origin wire (⟦<W as Observed>⟧.outer outside.old) (⟦<W as Observed>⟧.outer outside.new) }
-    ensures few { length bytes.new.items ≤ 17408 }
+// The capacity for a read behind so many bytes: twice what there was, and no more than is ever needed.
+fn room_for_read(len: usize, capacity: usize) -> usize
+    requires few { len ≤ line_limit }
+    requires within { capacity ≤ buffer_limit }
+    ensures enough { len + read_size ≤ result }
+    ensures within { result ≤ buffer_limit }
 {
-    if bytes.reserve(1024).is_err() {
+    (len + READ_SIZE).max(capacity * 2).min(BUFFER_LIMIT)
+}
+
+// Makes room for a read. A `Vec` left to itself would double past the most that is ever kept.
+fn make_room(bytes: &mut Vec<u8>) -> Result<(), AllocError>
+    requires few { length bytes.old.items ≤ line_limit }
+    requires within { vec_capacity bytes.old ≤ buffer_limit }
+    ensures items { bytes.new.items ≡ bytes.old.items }
+    ensures within { vec_capacity bytes.new ≤ buffer_limit }
+    ensures room { OnOk result (length bytes.new.items + read_size ≤ vec_capacity bytes.new) }
+{
+    let len = bytes.len();
+    if len + READ_SIZE <= bytes.capacity() {
+        return Ok(());
+    }
+    bytes.reserve_exact(room_for_read(len, bytes.capacity()) - len)
+}
+
+// Puts bytes behind those that are there, in the room that they have. `extend_from_slice` doesn't say what room it leaves.
+fn append(bytes: &mut Vec<u8>, came: &[u8])
+    requires room { length bytes.old.items + length came.now ≤ vec_capacity bytes.old }
+    ensures items { bytes.new.items ≡ bytes.old.items ++ came.now }
+    ensures room { vec_capacity bytes.new ≡ vec_capacity bytes.old }
+{
+    for byte in came {
+        bytes.push_reserved(*byte);
+    }
+}
+
+// Reads behind the bytes that are there. Memory is there before the wire is asked, so that no byte that came is lost; where
+// none came and none were there it is given back.
+fn receive<W: Wire>(bytes: &mut Vec<u8>, outside: &mut W, wire: u32) -> Result<Received, Fault>
+    requires few { length bytes.old.items ≤ line_limit }
+    requires within { vec_capacity bytes.old ≤ buffer_limit }
+    ensures amount { IfOk result (IsReceived read_size) }
+    ensures told { (into : List ℕ) × (length into ≡ read_size) × ((W.outer outside.new).events ≡ told (W.outer outside.old).events (recv_told wire into result))
+        × (bytes.new.items ≡ bytes.old.items ++ flat_map bytes_got (recv_told wire into result)) }
+    ensures cause { Counted result ((W.outer outside.old).wire_faults wire) ((W.outer outside.new).wire_faults wire) }
+    ensures keeps { Keeps (part.Wire wire) (W.outer outside.old) (W.outer outside.new) }
+    ensures few { length bytes.new.items ≤ buffer_limit }
+    ensures within { vec_capacity bytes.new ≤ buffer_limit }
+    ensures frees { OnOk result (length bytes.new.items ≡ 0 → vec_capacity bytes.new ≡ 0) }
+{
+    if make_room(bytes).is_err() {
         return Err(Fault::OutOfMemory);
     }
-    let mut buffer = [0u8; 1024];
+    let mut buffer = [0u8; READ_SIZE];
     let received = outside.recv(wire, &mut buffer);
     if let Ok(Received::Got(count)) = received {
-        if bytes.extend_from_slice(&buffer[..count]).is_err() {
-            return Err(Fault::OutOfMemory);
-        }
+        append(bytes, &buffer[..count]);
+    }
+    if bytes.is_empty() {
+        bytes.shrink_to_fit();
     }
     received
 }
@@ -104,7 +149,7 @@ impl Inbox {
 
     pub(crate) fn as_slice(&self) -> &[u8]
         ensures value { result.now ≡ self.now }
-        ensures few { length result.now ≤ 17408 }
+        ensures few { length result.now ≤ buffer_limit }
     {
         &self.bytes[self.start..]
     }
@@ -129,12 +174,12 @@ impl Inbox {
     }
 
     pub(crate) fn recv<W: Wire>(&mut self, outside: &mut W, wire: u32) -> Result<Received, Fault>
-        requires { length self.old ≤ 16384 }
-        ensures amount { IfOk result (IsReceived 1024) }
-        ensures told { (into : List ℕ) × (length into ≡ 1024) × (W.events outside.new ≡ told (W.events outside.old) (recv_told wire into result))
+        requires { length self.old ≤ line_limit }
+        ensures amount { IfOk result (IsReceived read_size) }
+        ensures told { (into : List ℕ) × (length into ≡ read_size) × ((W.outer outside.new).events ≡ told (W.outer outside.old).events (recv_told wire into result))
             × (self.new ≡ self.old ++ flat_map bytes_got (recv_told wire into result)) }
-        ensures cause { Counted result (W.wire_faults outside.old wire) (W.wire_faults outside.new wire) }
-        ensures keeps { Keeps W.Origin wire (⟦<W as Observed>⟧.outer outside.old) (⟦<W as Observed>⟧.outer outside.new) }
+        ensures cause { Counted result ((W.outer outside.old).wire_faults wire) ((W.outer outside.new).wire_faults wire) }
+        ensures keeps { Keeps (part.Wire wire) (W.outer outside.old) (W.outer outside.new) }
     {
         remove_front(&mut self.bytes, self.start);
         self.start = 0;

@@ -1,16 +1,17 @@
 //! The opening of a D-Bus connection (D-Bus specification, Authentication Protocol).
 #![tactic(auto)]
 
-mod answers;
 mod client;
+mod client_answers;
 mod command;
 mod config;
 mod exchange;
 mod handshake;
 mod inbox;
+mod limits;
+mod line;
 mod mechanism;
 mod outbox;
-mod outer;
 mod part;
 mod printing;
 mod server;

@@ -3,8 +3,9 @@
 ghost use Rattle.std.specs.Prelude.{IfOk};
 ghost use Rattle.bus_opening.specs.Parts.{LineAnswered, ClientAnswered, ServerAnswered};
 
-use crate::answers::{answer, read_line, reply_bytes};
+use crate::client_answers::{answer, client_bytes};
 use crate::exchange::Stage;
+use crate::line::read_line;
 use crate::mechanism::AuthMechanism;
 use crate::server_answers::{ServerReply, answer_at, line_at, server_bytes};
 use bus_address::Guid;
@@ -49,7 +50,7 @@ fn client_reply(
     };
     let command = read_line(alloc, line)?;
     let (stage, said) = answer(&part.expected, part.flatpak, part.passes, stage, &command);
-    let bytes = reply_bytes(alloc, part.hello.as_slice(), said)?;
+    let bytes = client_bytes(alloc, part.hello.as_slice(), said)?;
     Ok((stage, bytes))
 }
 

@@ -18,30 +18,56 @@ struct Memory {
     sends: u64,
     most: usize,
     room: usize,
+    // The place of the call that meets this trouble, counted from 0; every other one goes on.
+    trouble: Option<(u64, Trouble)>,
+    calls: u64,
+}
+
+// What a wire answers in place of bytes.
+#[derive(Clone, Copy)]
+enum Trouble {
+    Waits,
+    Fails,
+    LacksMemory,
+}
+
+impl Memory {
+    // The trouble of this call.
+    fn trouble_now(&mut self) -> Option<Trouble> {
+        let call = self.calls;
+        self.calls = call.saturating_add(1);
+        match self.trouble {
+            Some((at, trouble)) if at == call => Some(trouble),
+            _ => None,
+        }
+    }
 }
 
 impl Tells for Memory {
-    ghost use Rattle.std.specs.Prelude.{None, [], ◌^◌, ◌-◌};
+    ghost use Rattle.std.specs.Prelude.{None, [], false, ◌^◌, ◌-◌};
+    ghost use Rattle.std.proofs.Math.Nat.{le_refl};
+    ghost use Rattle.std.proofs.lemmas.Nat.{pow_pos};
 
     type Origin = ();
 
-    ghost origin = { λ s. tt };
+    ghost outer = { λ s. record { origin = tt; events = None; moment = 0; poller_faults = 0; wire_faults = λ w. 2 ^ 64 - 1; dial_faults = λ w. 0; doors = record { faults = 0; arrivals = [] }; ample = false } };
 
-    ghost events = { λ s. None };
-
-    ghost moment = { λ s. 0 };
-
-    ghost poller_faults = { λ s. 0 };
-
-    ghost wire_faults = { λ s w. 2 ^ 64 - 1 };
-
-    ghost dial_faults = { λ s w. 0 };
-
-    ghost doors = { λ s. record { faults = 0; arrivals = [] } };
+    ghost counts_fit = { λ s. record {
+      poller = pow_pos 64;
+      wires = λ _. le_refl (2 ^ 64);
+      dials = λ _. pow_pos 64;
+      doors = pow_pos 64;
+    } };
 }
 
 impl Wire for Memory {
     fn recv(&mut self, _wire: u32, into: &mut [u8]) -> Result<Received, Fault> {
+        match self.trouble_now() {
+            Some(Trouble::Waits) => return Ok(Received::NotReady),
+            Some(Trouble::Fails) => return Err(Fault::Failed),
+            Some(Trouble::LacksMemory) => return Err(Fault::OutOfMemory),
+            None => {}
+        }
         if self.rests && !self.rested {
             self.rested = true;
             return Ok(Received::NotReady);
@@ -62,6 +88,12 @@ impl Wire for Memory {
     }
 
     fn send(&mut self, _wire: u32, bytes: &[u8]) -> Result<Sent, Fault> {
+        match self.trouble_now() {
+            Some(Trouble::Waits) => return Ok(Sent::NotReady),
+            Some(Trouble::Fails) => return Err(Fault::Failed),
+            Some(Trouble::LacksMemory) => return Err(Fault::OutOfMemory),
+            None => {}
+        }
         if self.sent.len() >= self.room {
             return Err(Fault::Failed);
         }
@@ -91,6 +123,8 @@ fn holding(alloc: Global, input: &[u8]) -> Result<Memory, OutOfMemory> {
         sends: 0,
         most: 1024,
         room: 4096,
+        trouble: None,
+        calls: 0,
     })
 }
 
@@ -651,6 +685,79 @@ fn a_failing_wire_ends_as_io(rt: HostRuntime) -> Result<(), Fail> {
     let mut client = client(alloc, Asks::Nothing, None)?;
     assert_eq!(rt; ending(alloc, &mut client, &mut wire), Some(Verdict::Io));
     assert_eq!(rt; client.written(), "\0AU".as_bytes());
+    Ok(())
+}
+
+// One poll, where none has answered the end.
+fn once(alloc: Global, client: &mut Client, wire: &mut Memory) -> Option<Step> {
+    if client.is_done() {
+        return None;
+    }
+    Some(client.poll(alloc, wire, 0))
+}
+
+// What a plain client answers where this call of its wire meets this trouble, and whether it opens when it is polled on: its
+// calls are a send, a read, and the send of `BEGIN`.
+fn answers(alloc: Global, at: u64, trouble: Trouble) -> Result<(Option<Step>, bool), Fail> {
+    let comes = lines(alloc, K)?;
+    let mut wire = holding(alloc, comes.as_slice())?;
+    wire.trouble = Some((at, trouble));
+    let mut client = client(alloc, Asks::Nothing, None)?;
+    let first = once(alloc, &mut client, &mut wire);
+    let last = ending(alloc, &mut client, &mut wire);
+    Ok((first, last == verdict_of(End::Opens(false))?))
+}
+
+#[test]
+fn a_wire_that_waits_fails_or_lacks_memory_is_told(rt: HostRuntime) -> Result<(), Fail> {
+    let alloc = rt.alloc();
+    assert_eq!(rt;
+        answers(alloc, 0, Trouble::Waits)?,
+        (Some(Step::WantWrite), true)
+    );
+    assert_eq!(rt;
+        answers(alloc, 1, Trouble::Waits)?,
+        (Some(Step::WantRead), true)
+    );
+    assert_eq!(rt;
+        answers(alloc, 2, Trouble::Waits)?,
+        (Some(Step::WantWrite), true)
+    );
+    for at in 0..3 {
+        let failed = Step::Done(Verdict::Io);
+        assert_eq!(rt; answers(alloc, at, Trouble::Fails)?, (Some(failed), false));
+        assert_eq!(rt;
+            answers(alloc, at, Trouble::LacksMemory)?,
+            (Some(Step::OutOfMemory), true)
+        );
+    }
+    Ok(())
+}
+
+#[test]
+fn another_guid_than_the_expected_one_ends_as_handshake(rt: HostRuntime) -> Result<(), Fail> {
+    let alloc = rt.alloc();
+    let config = ClientConfig {
+        mechanism: None,
+        user: 1000,
+        hello: None,
+        flatpak: false,
+    };
+    let comes = lines(alloc, K)?;
+    let mut wire = holding(alloc, comes.as_slice())?;
+    let mut client = Client::new(
+        alloc,
+        &config,
+        Some(Guid::from_str(OTHER)?),
+        false,
+        false,
+        &[],
+    )?;
+    assert_eq!(rt;
+        client.poll(alloc, &mut wire, 0),
+        Step::Done(Verdict::Handshake)
+    );
+    assert_eq!(rt; client.written(), "\0AUTH EXTERNAL 31303030\r\n".as_bytes());
     Ok(())
 }
 

@@ -1,7 +1,7 @@
 -- A first visit: a wire was opened, and its source is added.
 use Rattle.std.proofs.Common.{◌≡◌, ◌<◌, ◌^◌, ℕ, Bool, true, false, nat_lt, List, [], ◌∷◌, map, Option, Some, None, Result, Ok, Err, IfOk, OnErr, refl, sym, ◌∙◌, ap, subst, arith}
 use Rattle.std.specs.Option.{option_map}
-use Rattle.react_core.specs.declared.source.Source.{Source}
+use Rattle.react_core.specs.Places.{Source}
 use Rattle.react_core.specs.declared.outside.Event.{Event}
 use Rattle.react_core.specs.declared.outside.Event.TheVariants as event
 use Rattle.react_core.specs.declared.outside.Question.{Question}
@@ -23,7 +23,7 @@ use Rattle.bus_peers.specs.Dialled.{first_question, conversation}
 use Rattle.bus_peers.specs.Registry.{Idle, held_at, with_held}
 use Rattle.bus_peers.specs.Settled.{waits_in}
 use Rattle.bus_peers.specs.Shown.{AllSane, Rests, shown, Tags, tags, tag_at, without_tag, has_wire, Single}
-use Rattle.bus_peers.specs.Visited.{Keeps, Holds, Stays, Registers, FirstTags, FirstVisits, undialled, dialled, dial_event}
+use Rattle.bus_peers.specs.Visited.{KeepsCall, Holds, Stays, Registers, FirstTags, FirstVisits, undialled, dialled, dial_event}
 use Rattle.bus_peers.proofs.Registries.{held_at-shown, with_new-shown}
 use Rattle.bus_peers.proofs.Turns.{keeps-after}
 use Rattle.bus_peers.proofs.TagLemmas.{with_tag, tags-with_new, source-no_tag, tag-held, single-distinct, distinct-single, tag_at-with, other_tag-with, other_wire-with, single-with, without-with}
@@ -39,11 +39,11 @@ refused-by (Err e) f h = f h
 -- ---- a new source
 
 sane_go : (r l key wire : ℕ) (x : ℕ × Source) (sources : List (ℕ × Source)) (b : Bool) → nat_lt key x.0 ≡ b → AllSane r l (x ∷ sources) → AllSane r l (with_new sources key (new_source wire)) → AllSane r l (with_new (x ∷ sources) key (new_source wire))
-sane_go r l key wire x sources true e sane ih = rw e (((omega arith, tt), (omega arith, tt)), sane)
+sane_go r l key wire x sources true e sane ih = rw e (((omega arith, tt, refl), (omega arith, tt, refl)), sane)
 sane_go r l key wire x sources false e sane ih = rw e (sane.0, ih)
 
 pub sane-new : (r l key wire : ℕ) (sources : List (ℕ × Source)) → AllSane r l sources → AllSane r l (with_new sources key (new_source wire))
-sane-new r l key wire [] sane = (((omega arith, tt), (omega arith, tt)), tt)
+sane-new r l key wire [] sane = (((omega arith, tt, refl), (omega arith, tt, refl)), tt)
 sane-new r l key wire (x ∷ sources) sane = sane_go r l key wire x sources (nat_lt key x.0) refl sane (sane-new r l key wire sources sane.1)
 
 module _ (old mid : Core) (wire key : ℕ) (free : source_of old.sources key ≡ None) (is : mid ≡ inserted old key wire) where
@@ -76,9 +76,9 @@ module _ (old mid : Core) (wire key : ℕ) (free : source_of old.sources key ≡
   tags-back = ap (λ ts. without_tag ts key) tags-inserted ∙ without-with (tags old.sources) key wire (source-no_tag old.sources key free)
 
   -- the visit was refused, and the source taken out
-  pub inserted-keeps : (r0 r1 r2 : Option (List Event)) (new : Core) → r1 ≡ told r0 (event.Add wire key true ∷ []) → Keeps (without_tag (tags mid.sources) key) r1 r2 mid new → Keeps (tags old.sources) r0 r2 old new
+  pub inserted-keeps : (r0 r1 r2 : Option (List Event)) (new : Core) → r1 ≡ told r0 (event.Add wire key true ∷ []) → KeepsCall (without_tag (tags mid.sources) key) r1 r2 mid new → KeepsCall (tags old.sources) r0 r2 old new
   inserted-keeps r0 r1 r2 new added keeps =
-      let K : Tags → Type 0 = λ ts. Keeps ts r1 r2 mid new in
+      let K : Tags → Type 0 = λ ts. KeepsCall ts r1 r2 mid new in
       keeps-after (tags old.sources) r0 r1 r2 old mid new (event.Add wire key true ∷ []) added refl (ap (λ c. c.ticker) is) (ap (λ c. c.made) is) (subst K tags-back keeps)
 
   pub inserted-tags : (r1 r2 : Option (List Event)) (new : Core) (client : Opening) (c : Slot) → has_wire wire (tags old.sources) ≡ false → Stays wire key r1 r2 mid new client c → FirstTags wire (tags old.sources) (tags new.sources) c
@@ -116,7 +116,7 @@ module _ (old mid : Core) (wire key : ℕ) (free : source_of old.sources key ≡
       )
 
 -- the insertion was refused
-pub insert-keeps : (wire : ℕ) (e : ReactError) (r0 r1 : Option (List Event)) (old new : Core) → Rests old → InsertTold old wire (Err e) r0 r1 → new ≡ old → Keeps (tags old.sources) r0 r1 old new
+pub insert-keeps : (wire : ℕ) (e : ReactError) (r0 r1 : Option (List Event)) (old new : Core) → Rests old → InsertTold old wire (Err e) r0 r1 → new ≡ old → KeepsCall (tags old.sources) r0 r1 old new
 insert-keeps wire react_error.Poller r0 r1 old new rests (key, free, gained) same = (
   event.Add wire key false ∷ [],
   record { gained = gained; waits = refl; ticker = ap (λ c. c.ticker) same; made = ap (λ c. c.made) same; tags = ap (λ c. tags c.sources) same; closed = ap (λ c. c.hands) same ∙ rests.idle },
@@ -147,6 +147,6 @@ dial-quiet : (wire : ℕ) (asked : Question) (opened : Option Opened) → waits_
 dial-quiet wire asked None = refl
 dial-quiet wire asked (Some o) = refl
 
-pub dialled-keeps : (s : Session) (wire : ℕ) (opened : Option Opened) (r0 r1 r2 : Option (List Event)) (old new : Core) → Dials s wire opened r0 r1 → Keeps (tags old.sources) r1 r2 old new → Keeps (tags old.sources) r0 r2 old new
+pub dialled-keeps : (s : Session) (wire : ℕ) (opened : Option Opened) (r0 r1 r2 : Option (List Event)) (old new : Core) → Dials s wire opened r0 r1 → KeepsCall (tags old.sources) r1 r2 old new → KeepsCall (tags old.sources) r0 r2 old new
 dialled-keeps s wire opened r0 r1 r2 old new (asked, asks, gained) keeps =
     keeps-after (tags old.sources) r0 r1 r2 old old new (dial_event wire asked opened ∷ []) gained (dial-quiet wire asked opened) refl refl keeps

@@ -9,11 +9,11 @@ use Rattle.react_core.specs.declared.outside.Event.{Event}
 use Rattle.react_core.specs.declared.outside.Report.{Report}
 use Rattle.react_core.specs.declared.reactor.Dir.{Dir}
 use Rattle.react_core.specs.declared.reactor.Dir.TheVariants.{Read, Write}
-use Rattle.react_core.specs.declared.source.Source.{Source}
+use Rattle.react_core.specs.Places.{Source}
 use Rattle.react_core.specs.Core.{Core, ReactorState}
 use Rattle.bus_peers.specs.declared.open.OpenError.{OpenError}
 use Rattle.bus_peers.specs.declared.open.OpenError.TheVariants as open_err
-use Rattle.react_core.specs.Round.{Round, round_told, reports_of}
+use Rattle.react_core.specs.Round.{reports_of}
 use Rattle.react_core.specs.Told.{told, told-told, told-nothing}
 use Rattle.bus_script.specs.declared.ended.Ending.{Ending}
 use Rattle.bus_script.specs.declared.ended.Ending.TheVariants as ending
@@ -22,6 +22,7 @@ use Rattle.bus_peers.specs.declared.visiting.Slot.{Slot}
 use Rattle.bus_peers.specs.declared.visiting.Slot.TheVariants as slot
 use Rattle.bus_peers.specs.declared.visiting.Sleeper.{Sleeper}
 use Rattle.bus_peers.specs.Parts.{part}
+use Rattle.bus_peers.specs.RoundEvents.{Round, round_told}
 use Rattle.bus_peers.specs.Dialled.{first_question}
 use Rattle.bus_peers.specs.Alone.{dials, goes_through, alone, outcome, HasEnded}
 use Rattle.bus_peers.specs.Headline.{after_begun}

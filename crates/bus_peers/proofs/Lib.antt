@@ -1,5 +1,4 @@
 pub mod FaultLemmas
-pub mod FaultlessLemmas
 pub mod PlayLemmas
 pub mod QueueLemmas
 pub mod ReadingLemmas
@@ -11,8 +10,10 @@ pub mod Armings
 pub mod TagLemmas
 pub mod Talks
 pub mod Readies
+pub mod Courses
 pub mod RoundLemmas
 pub mod Turns
+pub mod FrameLemmas
 pub mod StayLemmas
 pub mod Firsts
 pub mod GoesLemmas

@@ -1,30 +1,36 @@
 -- A poll changes the sources exactly as the record shows.
-use Rattle.std.proofs.Common.{◌≡◌, ◌≢◌, ℕ, Bool, true, false, nat_lt, ◌==◌, if◌then◌else◌, List, [], ◌∷◌, map, Option, Some, None, refl, sym, ◌∙◌, ap, subst, arith}
+use Rattle.std.proofs.Common.{◌≡◌, ◌≢◌, ℕ, Bool, true, false, ◌==◌, if◌then◌else◌, List, [], ◌∷◌, map, Option, Some, None, refl, sym, ◌∙◌, ap, subst, arith}
 use Rattle.std.proofs.lemmas.Bool.{eq-eqb, eqb-true, le-ltb, lt-ltb, ne_eqb}
 use Rattle.std.proofs.lemmas.Grind.{common_steps}
 use Rattle.react_core.specs.declared.reactor.Dir.{Dir}
 use Rattle.react_core.specs.declared.reactor.Dir.TheVariants.{Read, Write}
-use Rattle.react_core.specs.declared.source.Source.{Source}
-use Rattle.react_core.specs.declared.source.Waiting.{Waiting}
-use Rattle.react_core.specs.declared.source.Interest.{Interest}
+use Rattle.react_core.specs.Places.{Entry, Direction, Source, round_number}
 use Rattle.react_core.specs.Core.{Core}
-use Rattle.react_core.specs.Sources.{source_of, with_source, side, with_side}
-use Rattle.react_core.specs.Readiness.{Fires, place_outcome, waiting_outcome, after_source_poll}
+use Rattle.react_core.specs.Sources.{source_of, with_source, side, with_side, some_task}
+use Rattle.react_core.specs.Readiness.{Outcome, Fires, fresh_at, stored_task, direction_outcome, waiting_outcome, after_source_poll}
 use Rattle.bus_peers.specs.Registry.{Side, Idle, Waits, Reported, side_held, Held, noted, stopped_held, Apart, Distinct}
 use Rattle.bus_peers.specs.Shown.{shown, side_of, place_side, task_side, poll_of, Sane, SanePlace, SaneTask}
 use Rattle.bus_peers.proofs.Registries.{shown_at}
 
-poll_task : (task reported since : ℕ) (o : Option ℕ) → SaneTask task reported since o →
-    (if nat_lt since reported then Fires else waiting_outcome task o) ≡ poll_of (task_side o)
-poll_task task reported since None lt = rw (lt-ltb since reported lt) refl
-poll_task task reported since (Some stored) (is, le) = rw (le-ltb since reported le, eq-eqb stored task is) refl
+-- what a poll does where no future waits
+abbrev lone_outcome : ℕ → Option ℕ → Option Entry → Outcome
+lone_outcome task reported polled = if fresh_at reported polled then Fires else waiting_outcome task false (stored_task polled)
 
-poll_place : (task reported last : ℕ) (o : Option Waiting) → SanePlace task reported last o → place_outcome task reported o ≡ poll_of (place_side o)
-poll_place task reported last None sane = refl
-poll_place task reported last (Some w) sane = poll_task task reported w.since w.task sane.1
+poll_task : (task since : ℕ) (reported task' : Option ℕ) → SaneTask task (round_number reported) since task' →
+    lone_outcome task reported (Some (record { since = since; task = task' })) ≡ poll_of (task_side task')
+poll_task task since None None lt = absurd (omega (arith, lt))
+poll_task task since None (Some stored) (is, le) = rw (eq-eqb stored task is) refl
+poll_task task since (Some round) None lt = rw (lt-ltb since round lt) refl
+poll_task task since (Some round) (Some stored) (is, le) = rw (le-ltb since round le, eq-eqb stored task is) refl
 
-pub poll-by : (round last task : ℕ) (i : Interest) → Sane round last task i → place_outcome task i.reported i.polled ≡ poll_of (side_of i)
-poll-by round last task i sane = poll_place task i.reported last i.polled sane.1
+poll_place : (task last : ℕ) (reported : Option ℕ) (polled : Option Entry) → SanePlace task (round_number reported) last polled → lone_outcome task reported polled ≡ poll_of (place_side polled)
+poll_place task last reported None sane = refl
+poll_place task last reported (Some w) sane = poll_task task w.since reported w.task sane.1
+
+pub poll-by : (round last task : ℕ) (d : Direction) → Sane round last task d → direction_outcome task d ≡ poll_of (side_of d)
+poll-by round last task d sane =
+    ap (λ futures. if fresh_at d.reported d.polled then Fires else waiting_outcome task (some_task futures) (stored_task d.polled)) sane.2
+    ∙ poll_place task last d.reported d.polled sane.1
 
 -- ---- one source by its key is the one by its wire
 

@@ -7,19 +7,18 @@ use Rattle.react_core.specs.declared.outside.Event.{Event}
 use Rattle.react_core.specs.declared.outside.Event.TheVariants as event
 use Rattle.react_core.specs.declared.reactor.Dir.{Dir}
 use Rattle.react_core.specs.declared.reactor.Dir.TheVariants.{Read, Write}
-use Rattle.react_core.specs.declared.source.Source.{Source}
-use Rattle.react_core.specs.declared.source.Interest.{Interest}
+use Rattle.react_core.specs.Places.{Direction, Source}
 use Rattle.react_core.specs.Told.{told}
 use Rattle.react_core.specs.Core.{Core, HasSource}
 use Rattle.react_core.specs.Sources.{source_of, with_source, side, with_side}
-use Rattle.react_core.specs.Readiness.{Outcome, place_outcome, source_outcome, poll_outcome, poll_answer, poll_told, woken_by, arms, after_source_poll, armed, is_ready}
+use Rattle.react_core.specs.Readiness.{Outcome, direction_outcome, source_outcome, poll_outcome, poll_answer, poll_told, woken_by, arms, after_source_poll, armed, is_ready}
 use Rattle.react_core.specs.Step.{Step, PolledPoll, Polled}
 use Rattle.bus_peers.specs.Headline.{after_begun}
 use Rattle.bus_peers.specs.Registry.{Side, Idle, Waits, Reported, waits, side_held, Held, held_at, arming, noted, stopped_held, Apart, Distinct}
 use Rattle.bus_peers.specs.Asking.{arms_at}
 use Rattle.bus_peers.specs.Shown.{shown, side_of, poll_of, Sane, SaneSource, AllSane, Rests, tags}
 use Rattle.bus_peers.specs.Visited.{Holds, Readied, arms_told, asks_again}
-use Rattle.bus_peers.proofs.Registries.{shown_at, waits_place, held_at-shown}
+use Rattle.bus_peers.proofs.Registries.{shown_at, waits-side, held_at-shown}
 use Rattle.bus_peers.proofs.TagLemmas.{tags-with_source}
 use Rattle.bus_peers.proofs.Links.{poll-by, poll-noted}
 
@@ -46,12 +45,12 @@ sane-side round last Read s sane = sane.0
 sane-side round last Write s sane = sane.1
 
 sane-begins : (t : ℕ) (dir : Dir) (s : Source) → SaneSource t t s → SaneSource t t (with_side dir s (record (side dir s) { polled = Some (record { since = t; task = Some s.wire }) }))
-sane-begins t Read s (r, w) = ((r.0, (omega arith, (refl, r.0))), w)
-sane-begins t Write s (r, w) = (r, (w.0, (omega arith, (refl, w.0))))
+sane-begins t Read s (r, w) = ((r.0, (omega arith, (refl, r.0)), r.2), w)
+sane-begins t Write s (r, w) = (r, (w.0, (omega arith, (refl, w.0)), w.2))
 
 sane-fires : (t : ℕ) (dir : Dir) (s : Source) → SaneSource t t s → SaneSource t t (with_side dir s (record (side dir s) { polled = None }))
-sane-fires t Read s (r, w) = ((r.0, tt), w)
-sane-fires t Write s (r, w) = (r, (w.0, tt))
+sane-fires t Read s (r, w) = ((r.0, tt, r.2), w)
+sane-fires t Write s (r, w) = (r, (w.0, tt, w.2))
 
 sane-poll : (core : Core) (key : ℕ) (dir : Dir) (s : Source) (b : Side) → AllSane core.ticker core.ticker core.sources → source_of core.sources key ≡ Some s →
     AllSane core.ticker core.ticker (after_source_poll core key (Some s) dir s.wire (poll_of b)).sources
@@ -123,7 +122,7 @@ poll-fits core key dir s task Idle fits = begun-fits core.begun
 poll-fits core key dir s task Waits fits = fits
 poll-fits core key dir s task Reported fits = fits
 
-side-wire : (dir : Dir) (s : Source) (i : Interest) → (with_side dir s i).wire ≡ s.wire
+side-wire : (dir : Dir) (s : Source) (i : Direction) → (with_side dir s i).wire ≡ s.wire
 side-wire Read s i = refl
 side-wire Write s i = refl
 
@@ -140,14 +139,14 @@ or_true : (wire key : ℕ) (b : Bool) → event.Modify wire key b true true ∷ 
 or_true wire key true = refl
 or_true wire key false = refl
 
-armed-shown : (dir : Dir) (key : ℕ) (s : Source) → side_held dir (shown_at key s) ≡ Idle → armed (Some s) key dir true ≡ arming (stopped_held dir (shown_at key s))
-armed-shown Read key s e = rw (waits_place s.write.polled, e) refl
-armed-shown Write key s e = rw (waits_place s.read.polled, e) (or_true s.wire key (waits (side_of s.read)))
+armed-shown : (round last : ℕ) (dir : Dir) (key : ℕ) (s : Source) → SaneSource round last s → side_held dir (shown_at key s) ≡ Idle → armed (Some s) key dir true ≡ arming (stopped_held dir (shown_at key s))
+armed-shown round last Read key s sane e = rw (waits-side s.write sane.1.2, e) refl
+armed-shown round last Write key s sane e = rw (waits-side s.read sane.0.2, e) (or_true s.wire key (waits (side_of s.read)))
 
-poll-told : (dir : Dir) (key : ℕ) (s : Source) (b : Side) → side_held dir (shown_at key s) ≡ b → (if arms (poll_of b) then armed (Some s) key dir true else []) ≡ arms_told (arms_at dir (shown_at key s) b)
-poll-told dir key s Idle e = armed-shown dir key s e
-poll-told dir key s Waits e = refl
-poll-told dir key s Reported e = refl
+poll-told : (round last : ℕ) (dir : Dir) (key : ℕ) (s : Source) (b : Side) → SaneSource round last s → side_held dir (shown_at key s) ≡ b → (if arms (poll_of b) then armed (Some s) key dir true else []) ≡ arms_told (arms_at dir (shown_at key s) b)
+poll-told round last dir key s Idle sane e = armed-shown round last dir key s sane e
+poll-told round last dir key s Waits sane e = refl
+poll-told round last dir key s Reported sane e = refl
 
 poll-again : (dir : Dir) (h : Held) (b : Side) → is_ready (poll_answer (poll_of b)) ≡ asks_again (arms_at dir h b)
 poll-again dir h Idle = refl
@@ -185,9 +184,9 @@ readied-at : (old new : Core) (wire key : ℕ) (dir : Dir) (answer : Poll (Unit 
 readied-at old new wire key dir answer r0 r1 s rests is own step gained =
     let b : Side = side_held dir (shown_at key s) in
     let at : held_at (map shown old.sources) key ≡ Some (shown_at key s) = held_at-shown old.sources key ∙ ap (option_map (shown_at key)) is in
-    let sane : Sane old.ticker old.ticker s.wire (side dir s) = sane-side old.ticker old.ticker dir s (sane-at old.ticker old.ticker old.sources key s rests.sane is) in
-    let by : place_outcome s.wire (side dir s).reported (side dir s).polled ≡ poll_of b = poll-by old.ticker old.ticker s.wire (side dir s) sane ∙ ap poll_of (side-shown dir key s) in
-    let P : ℕ → Type 0 = λ w. place_outcome w (side dir s).reported (side dir s).polled ≡ poll_of b in
+    let sane : SaneSource old.ticker old.ticker s = sane-at old.ticker old.ticker old.sources key s rests.sane is in
+    let by : direction_outcome s.wire (side dir s) ≡ poll_of b = poll-by old.ticker old.ticker s.wire (side dir s) (sane-side old.ticker old.ticker dir s sane) ∙ ap poll_of (side-shown dir key s) in
+    let P : ℕ → Type 0 = λ w. direction_outcome w (side dir s) ≡ poll_of b in
     let out : poll_outcome old key dir wire ≡ poll_of b = ap (λ o. source_outcome o dir wire) is ∙ subst P own by in
     let C : Option Source → Outcome → ℕ → Core = λ o p w. after_source_poll old key o dir w p in
     let core : new ≡ after_source_poll old key (Some s) dir s.wire (poll_of b) = step.core ∙ (ap (λ p. C (source_of old.sources key) p wire) out ∙ (ap (λ o. C o (poll_of b) wire) is ∙ ap (λ w. C (Some s) (poll_of b) w) (sym own))) in
@@ -199,7 +198,7 @@ readied-at old new wire key dir answer r0 r1 s rests is own step gained =
       was = at;
       wired = own;
       now = rw shows' (held-noted wire key dir (map shown old.sources) (shown_at key s) at own);
-      gained = told' ∙ ap (told r0) (poll-told dir key s b refl);
+      gained = told' ∙ ap (told r0) (poll-told old.ticker old.ticker dir key s b sane refl);
       again_so = ap is_ready answered ∙ poll-again dir (shown_at key s) b;
       shows = shows';
       rests = record {

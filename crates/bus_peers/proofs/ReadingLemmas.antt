@@ -20,7 +20,7 @@ use Rattle.bus_script.specs.declared.line.SessionLine.{SessionLine}
 use Rattle.bus_script.specs.declared.line.SessionLine.TheVariants as session_line
 use Rattle.bus_peers.specs.Sessions.{is_built}
 use Rattle.bus_peers.specs.Reading.{session_of}
-use Rattle.bus_peers.proofs.FaultlessLemmas.{both-left, both-right}
+use Rattle.bus_peers.specs.Faultless.{both-left, both-right}
 
 -- the lines of a text are no fewer than what they say
 pub said_few : (texts : List (List ℕ)) (said : List Line) → Say texts said → length said ≤ length texts

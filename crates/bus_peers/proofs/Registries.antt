@@ -1,16 +1,14 @@
 -- The reactor's sources and the registry that the record shows are the same.
-use Rattle.std.proofs.Common.{◌≡◌, ℕ, Bool, true, false, ◌||◌, nat_lt, ◌==◌, if◌then◌else◌, List, [], ◌∷◌, ◌++◌, map, Option, Some, None, is_some, refl, sym, ◌∙◌, ap, arith}
+use Rattle.std.proofs.Common.{◌≡◌, ℕ, Bool, true, false, ◌||◌, nat_lt, ◌==◌, if◌then◌else◌, List, [], ◌∷◌, map, Option, Some, None, is_some, refl, sym, ◌∙◌, ap, arith}
 use Rattle.std.proofs.lemmas.Bool.{eqb-true}
 use Rattle.std.proofs.lemmas.Grind.{common_steps}
-use Rattle.std.proofs.lemmas.List.{map-append}
 use Rattle.std.specs.Option.{option_map}
 use Rattle.react_core.specs.declared.outside.Report.{Report}
-use Rattle.react_core.specs.declared.source.Source.{Source}
-use Rattle.react_core.specs.declared.source.Waiting.{Waiting}
-use Rattle.react_core.specs.declared.source.Interest.{Interest}
-use Rattle.react_core.specs.Sources.{has_task, source_of, without, with_new}
-use Rattle.react_core.specs.Reports.{marked, without_task, reported, after_report, after_report_of, after_reports, arming_of, armings_by_of, armings_by, armings_by_all, armed_told}
-use Rattle.bus_peers.specs.Registry.{Reported, told_of, waits, arming, Held, held_at, with_held, without_held, after_report_held, after_reports_held, reported_held, rearming, rearming_of}
+use Rattle.react_core.specs.Places.{Entry, Direction, Source}
+use Rattle.react_core.specs.Sources.{has_task, some_task, source_of, without, with_new}
+use Rattle.react_core.specs.Sources as sources_of
+use Rattle.react_core.specs.Reports.{marked, without_task, without_tasks, reported, after_report, after_report_of, after_reports, arming_of, armed_told}
+use Rattle.bus_peers.specs.Registry.{Reported, told_of, waits, arming, Held, held_at, with_held, without_held, after_report_held, after_reports_held, reported_held}
 use Rattle.bus_peers.specs.Shown.{side_of, place_side, task_side, shown}
 
 -- the source under this key, as the record shows it
@@ -43,13 +41,18 @@ side-marked_task : (o : Option ℕ) → Reported ≡ told_of true (task_side o)
 side-marked_task None = refl
 side-marked_task (Some task) = refl
 
-side-marked_place : (w : Option Waiting) → place_side (without_task w) ≡ told_of true (place_side w)
+side-marked_place : (w : Option Entry) → place_side (without_task w) ≡ told_of true (place_side w)
 side-marked_place None = refl
 side-marked_place (Some w) = side-marked_task w.task
 
-pub side-marked : (b : Bool) (t : ℕ) (i : Interest) → side_of (marked b t i) ≡ told_of b (side_of i)
-side-marked true t i = side-marked_place i.polled
-side-marked false t i = refl
+pub side-marked : (b : Bool) (t : ℕ) (d : Direction) → side_of (marked b t d) ≡ told_of b (side_of d)
+side-marked true t d = side-marked_place d.polled
+side-marked false t d = refl
+
+-- a report leaves no future where there was none
+pub lone-marked : (b : Bool) (t : ℕ) (d : Direction) → d.futures ≡ [] → (marked b t d).futures ≡ []
+lone-marked true t d none = ap without_tasks none
+lone-marked false t d none = none
 
 pub reported-shown : (t : ℕ) (r : Report) (key : ℕ) (s : Source) → shown_at key (reported t r s) ≡ reported_held (shown_at key s) r
 reported-shown t r key s = rw (side-marked r.read t s.read, side-marked r.write t s.write) refl
@@ -58,17 +61,21 @@ waits_task : (o : Option ℕ) → is_some o ≡ waits (task_side o)
 waits_task None = refl
 waits_task (Some task) = refl
 
-pub waits_place : (w : Option Waiting) → has_task w ≡ waits (place_side w)
+pub waits_place : (w : Option Entry) → has_task w ≡ waits (place_side w)
 waits_place None = refl
 waits_place (Some w) = waits_task w.task
+
+-- a task waits for a direction exactly where its side waits
+pub waits-side : (d : Direction) → d.futures ≡ [] → sources_of.waits d ≡ waits (side_of d)
+waits-side d none = ap (λ futures. some_task futures || has_task d.polled) none ∙ waits_place d.polled
 
 arming_go : (key : ℕ) (s : Source) (b c : Bool) → map armed_told (if b || c then (record { wire = s.wire; key = key; read = b; write = c }) ∷ [] else []) ≡ (if b || c then armed_told (record { wire = s.wire; key = key; read = b; write = c }) ∷ [] else [])
 arming_go key s true c = refl
 arming_go key s false true = refl
 arming_go key s false false = refl
 
-pub arming-shown : (key : ℕ) (s : Source) → map armed_told (arming_of key s) ≡ arming (shown_at key s)
-arming-shown key s = rw (waits_place s.read.polled, waits_place s.write.polled) (arming_go key s (waits (side_of s.read)) (waits (side_of s.write)))
+pub arming-shown : (key : ℕ) (s : Source) → s.read.futures ≡ [] → s.write.futures ≡ [] → map armed_told (arming_of key s) ≡ arming (shown_at key s)
+arming-shown key s read write = rw (waits-side s.read read, waits-side s.write write) (arming_go key s (waits (side_of s.read)) (waits (side_of s.write)))
 
 later : (t : ℕ) (s : ℕ × Source) (sources : List (ℕ × Source)) (r : Report) (o : Option Source) → (s.0 == r.key) ≡ false →
     after_report_of t (s ∷ sources) r o ≡ s ∷ after_report_of t sources r o
@@ -91,16 +98,3 @@ after_report-shown t (s ∷ sources) r = here_or_later t s sources r (s.0 == r.k
 pub after_reports-shown : (t : ℕ) (sources : List (ℕ × Source)) (reports : List Report) → map shown (after_reports t sources reports) ≡ after_reports_held (map shown sources) reports
 after_reports-shown t sources [] = refl
 after_reports-shown t sources (r ∷ reports) = rw (after_reports-shown t (after_report t sources r) reports, after_report-shown t sources r) refl
-
-rearmed-shown : (t : ℕ) (r : Report) (o : Option Source) → map armed_told (armings_by_of t r o) ≡ rearming_of (option_map (shown_at r.key) o) r
-rearmed-shown t r None = refl
-rearmed-shown t r (Some s) = arming-shown r.key (reported t r s) ∙ ap arming (reported-shown t r r.key s)
-
--- what the reactor arms after reports is what the record shows
-pub rearming-shown : (t : ℕ) (sources : List (ℕ × Source)) (reports : List Report) → map armed_told (armings_by_all t sources reports) ≡ rearming (map shown sources) reports
-rearming-shown t sources [] = refl
-rearming-shown t sources (r ∷ reports) =
-    let split : map armed_told (armings_by t sources r ++ armings_by_all t (after_report t sources r) reports) ≡ map armed_told (armings_by t sources r) ++ map armed_told (armings_by_all t (after_report t sources r) reports) = map-append armed_told (armings_by t sources r) (armings_by_all t (after_report t sources r) reports) in
-    let here : map armed_told (armings_by t sources r) ≡ rearming_of (held_at (map shown sources) r.key) r = rearmed-shown t r (source_of sources r.key) ∙ ap (λ o. rearming_of o r) (sym (held_at-shown sources r.key)) in
-    let there : map armed_told (armings_by_all t (after_report t sources r) reports) ≡ rearming (after_report_held (map shown sources) r) reports = rearming-shown t (after_report t sources r) reports ∙ ap (λ held. rearming held reports) (after_report-shown t sources r) in
-    split ∙ (ap (λ x. x ++ map armed_told (armings_by_all t (after_report t sources r) reports)) here ∙ ap (λ x. rearming_of (held_at (map shown sources) r.key) r ++ x) there)

@@ -3,12 +3,13 @@ use Rattle.std.proofs.Common.{◌≡◌, ◌<◌, ◌≤◌, ◌+◌, ℕ, zero,
 use Rattle.std.proofs.lemmas.Bool.{eqb-true, or_parts}
 use Rattle.std.proofs.lemmas.Grind.{common_steps}
 use Rattle.std.proofs.lemmas.Bool.Decides.{same_from_decides}
-use Rattle.std.proofs.lemmas.List.{append_assoc, append-nil}
+use Rattle.std.proofs.lemmas.List.{append_assoc, append-nil, map-append}
 use Rattle.std.proofs.lemmas.List.Filters.{dedup_is}
 use Rattle.std.proofs.lemmas.List.Folds.{list_any-append}
 use Rattle.std.proofs.lemmas.List.Kept.{Contains-dedup_nat, Contains-from_dedup}
 use Rattle.std.proofs.lemmas.List.Sorted.{Contains-permutation, IsPermutation-sym}
 use Rattle.std.proofs.lemmas.Map.Keys.{IsStrictlyIncreasing-dedup}
+use Rattle.std.specs.Option.{option_map}
 use Rattle.std.specs.List.{Contains, dedup, list_any}
 use Rattle.std.specs.List.Retain.{IsFiltered, DiffersFromLast}
 use Rattle.std.specs.List.Sorted.{IsStrictlyIncreasing}
@@ -16,9 +17,7 @@ use Rattle.react_core.specs.declared.outside.Event.{Event}
 use Rattle.react_core.specs.declared.outside.Report.{Report}
 use Rattle.react_core.specs.declared.outside.WaitAnswer.{WaitAnswer}
 use Rattle.react_core.specs.declared.outside.WaitAnswer.TheVariants as wait_answer
-use Rattle.react_core.specs.declared.source.Source.{Source}
-use Rattle.react_core.specs.declared.source.Waiting.{Waiting}
-use Rattle.react_core.specs.declared.source.Interest.{Interest}
+use Rattle.react_core.specs.Places.{Entry, Direction, Source, round_number}
 use Rattle.react_core.specs.declared.reactor.ReactError.{ReactError}
 use Rattle.react_core.specs.declared.reactor.ReactError.TheVariants as react_err
 use Rattle.react_core.specs.declared.outside.Fault.{Fault}
@@ -27,19 +26,21 @@ use Rattle.react_core.specs.Told.{told, told-nothing, modify_told}
 use Rattle.react_core.specs.Core.{Core, ReactorState}
 use Rattle.react_core.specs.Sources.{source_of}
 use Rattle.react_core.specs.Sources as sources_of
-use Rattle.react_core.specs.Reports.{marked, without_task, reported, taken_of, taken_by, taken_by_all, after_report, after_report_of, after_reports, Try, tries_told}
-use Rattle.react_core.specs.Round.{Round, Rounds, round_told, reading_told, reports_of, Ran, Course, Second, NotRead, ReadAt, Unreadable, Unwaited, Waited, Unread, Read, course_told, after_course, NumberedBy, OnExhausted, UnlessExhausted}
-use Rattle.react_core.specs.Step.{WokeAll}
+use Rattle.react_core.specs.Reports.{marked, without_task, reported, task_of, tasks_of, future_tasks, taken_of, taken_by, taken_by_all, after_report, after_report_of, after_reports, armings_by_of, armings_by, armings_by_all, armed_told, Try, tries_told}
+use Rattle.react_core.specs.Round.{reports_of, Ran, Course, CourseSteps, Pause, Unwaited, Waited, Reread, Unreread, Unread, Read, course_told, pause_reports, NumberedBy, OnExhausted, UnlessExhausted}
+use Rattle.react_core.specs.Step.{WokeAll, begun_round, finished_round}
 use Rattle.bus_peers.specs.declared.rounds.Woken.{Woken}
 use Rattle.bus_peers.specs.declared.open.OpenError.{OpenError}
 use Rattle.bus_peers.specs.Headline.{open_error}
-use Rattle.bus_peers.specs.Registry.{Held, Side, Idle, Waits, Reported, held_at, registry, waits, told_of, reported_held, after_wait, after_report_held, after_reports_held, rearming, rearming_of, Apart, Distinct, RisesFrom}
+use Rattle.bus_peers.specs.RoundEvents.{Round, round_told, reading_told}
+use Rattle.bus_peers.specs.Registry.{Held, Side, Idle, Waits, Reported, held_at, registry, arming, waits, told_of, reported_held, after_wait, after_report_held, after_reports_held, rearming, rearming_of, Apart, Distinct, RisesFrom}
 use Rattle.bus_peers.specs.Parts.{part}
 use Rattle.bus_peers.specs.Rounds.{WokenBy, Rounded}
 use Rattle.bus_peers.specs.Settled.{is_in, is_due, due_at, round_events, waits_in}
 use Rattle.bus_peers.specs.Slots.{Told, Refuses, RefusedAt}
 use Rattle.bus_peers.specs.Shown.{shown, side_of, place_side, Sane, SanePlace, SaneTask, SaneSource, AllSane, Rests, tags}
-use Rattle.bus_peers.proofs.Registries.{rearming-shown, after_report-shown, after_reports-shown}
+use Rattle.bus_peers.proofs.Courses.{Rounds, course-core}
+use Rattle.bus_peers.proofs.Registries.{shown_at, held_at-shown, reported-shown, arming-shown, lone-marked, after_report-shown, after_reports-shown}
 use Rattle.bus_peers.proofs.Readies.{sane-at, sane-with}
 use Rattle.bus_peers.proofs.TagLemmas.{tags-after_reports}
 use Rattle.bus_peers.proofs.Armings.{arming-quiet, arming-apart}
@@ -124,13 +125,13 @@ round-held r held = registry-append held (round_told None r) (rearming held (rep
 
 -- ---- the reports keep the sources sane, and the wires apart
 
-sane_marked_place : (last task reported : ℕ) (w : Option Waiting) → SanePlace task reported last w → SanePlace task (last + 1) last (without_task w)
+sane_marked_place : (last task reported : ℕ) (w : Option Entry) → SanePlace task reported last w → SanePlace task (last + 1) last (without_task w)
 sane_marked_place last task reported None sane = tt
 sane_marked_place last task reported (Some w) sane = (sane.0, omega (arith, sane.0))
 
-sane-marked : (b : Bool) (last task : ℕ) (i : Interest) → Sane (last + 1) last task i → Sane (last + 1) last task (marked b (last + 1) i)
-sane-marked true last task i sane = (omega arith, sane_marked_place last task i.reported i.polled sane.1)
-sane-marked false last task i sane = sane
+sane-marked : (b : Bool) (last task : ℕ) (d : Direction) → Sane (last + 1) last task d → Sane (last + 1) last task (marked b (last + 1) d)
+sane-marked true last task d sane = (omega arith, sane_marked_place last task (round_number d.reported) d.polled sane.1, lone-marked true (last + 1) d sane.2)
+sane-marked false last task d sane = sane
 
 sane_report_of : (last : ℕ) (sources : List (ℕ × Source)) (r : Report) (o : Option Source) → source_of sources r.key ≡ o → AllSane (last + 1) last sources → AllSane (last + 1) last (after_report_of (last + 1) sources r o)
 sane_report_of last sources r None e sane = sane
@@ -142,12 +143,35 @@ sane-reports : (last : ℕ) (sources : List (ℕ × Source)) (reports : List Rep
 sane-reports last sources [] sane = sane
 sane-reports last sources (r ∷ reports) sane = sane-reports last (after_report (last + 1) sources r) reports (sane_report_of last sources r (source_of sources r.key) refl sane)
 
-weaker_place : (last last' task reported : ℕ) (w : Option Waiting) → last ≤ last' → SanePlace task reported last w → SanePlace task reported last' w
+-- ---- the re-arming is what the record shows
+
+rearmed-shown : (last : ℕ) (r : Report) (o : Option Source) → ((s : Source) → o ≡ Some s → SaneSource (last + 1) last s) → map armed_told (armings_by_of (last + 1) r o) ≡ rearming_of (option_map (shown_at r.key) o) r
+rearmed-shown last r None sane = refl
+rearmed-shown last r (Some s) sane =
+    let at : SaneSource (last + 1) last s = sane s refl in
+    arming-shown r.key (reported (last + 1) r s) (lone-marked r.read (last + 1) s.read at.0.2) (lone-marked r.write (last + 1) s.write at.1.2) ∙ ap arming (reported-shown (last + 1) r r.key s)
+
+-- what the reactor arms after reports is what the record shows
+rearming-shown : (last : ℕ) (sources : List (ℕ × Source)) (reports : List Report) → AllSane (last + 1) last sources → map armed_told (armings_by_all (last + 1) sources reports) ≡ rearming (map shown sources) reports
+rearming-shown last sources [] sane = refl
+rearming-shown last sources (r ∷ reports) sane =
+    let first : List Event = map armed_told (armings_by (last + 1) sources r) in
+    let rest : List Event = map armed_told (armings_by_all (last + 1) (after_report (last + 1) sources r) reports) in
+    let split : map armed_told (armings_by (last + 1) sources r ++ armings_by_all (last + 1) (after_report (last + 1) sources r) reports) ≡ first ++ rest =
+    map-append armed_told (armings_by (last + 1) sources r) (armings_by_all (last + 1) (after_report (last + 1) sources r) reports) in
+    let here : first ≡ rearming_of (held_at (map shown sources) r.key) r =
+    rearmed-shown last r (source_of sources r.key) (λ s at. sane-at (last + 1) last sources r.key s sane at) ∙ ap (λ o. rearming_of o r) (sym (held_at-shown sources r.key)) in
+    let there : rest ≡ rearming (after_report_held (map shown sources) r) reports =
+    rearming-shown last (after_report (last + 1) sources r) reports (sane_report_of last sources r (source_of sources r.key) refl sane)
+    ∙ ap (λ held. rearming held reports) (after_report-shown (last + 1) sources r) in
+    split ∙ (ap (λ x. x ++ rest) here ∙ ap (λ x. rearming_of (held_at (map shown sources) r.key) r ++ x) there)
+
+weaker_place : (last last' task reported : ℕ) (w : Option Entry) → last ≤ last' → SanePlace task reported last w → SanePlace task reported last' w
 weaker_place last last' task reported None le sane = tt
 weaker_place last last' task reported (Some w) le sane = (omega (arith, le, sane.0), sane.1)
 
-weaker : (round round' last last' task : ℕ) (i : Interest) → round ≤ round' → last ≤ last' → Sane round last task i → Sane round' last' task i
-weaker round round' last last' task i le le' sane = (omega (arith, le, sane.0), weaker_place last last' task i.reported i.polled le' sane.1)
+weaker : (round round' last last' task : ℕ) (d : Direction) → round ≤ round' → last ≤ last' → Sane round last task d → Sane round' last' task d
+weaker round round' last last' task d le le' sane = (omega (arith, le, sane.0), weaker_place last last' task (round_number d.reported) d.polled le' sane.1, sane.2)
 
 pub sane-weaker : (round round' last last' : ℕ) (sources : List (ℕ × Source)) → round ≤ round' → last ≤ last' → AllSane round last sources → AllSane round' last' sources
 sane-weaker round round' last last' [] le le' sane = tt
@@ -280,17 +304,21 @@ rising-shown : (low : ℕ) (sources : List (ℕ × Source)) → sources_of.Rises
 rising-shown low [] up = tt
 rising-shown low (s ∷ sources) up = (up.0, rising-shown (s.0 + 1) sources up.1)
 
-taken_task : (w task reported since : ℕ) (o : Option ℕ) → SaneTask task reported since o → is_in w (taken_of true (record { reported = reported; polled = Some (record { since = since; task = o }) })) ≡ (waits (place_side (Some (record { since = since; task = o }))) && (task == w))
+taken_task : (w task reported since : ℕ) (o : Option ℕ) → SaneTask task reported since o → is_in w (task_of (Some (record { since = since; task = o }))) ≡ (waits (place_side (Some (record { since = since; task = o }))) && (task == w))
 taken_task w task reported since None sane = refl
 taken_task w task reported since (Some stored) sane = or_false (stored == w) ∙ ap (λ x. x == w) sane.0
 
-taken_place : (w task last reported : ℕ) (p : Option Waiting) → SanePlace task reported last p → is_in w (taken_of true (record { reported = reported; polled = p })) ≡ (waits (place_side p) && (task == w))
+taken_place : (w task last reported : ℕ) (p : Option Entry) → SanePlace task reported last p → is_in w (task_of p) ≡ (waits (place_side p) && (task == w))
 taken_place w task last reported None sane = refl
 taken_place w task last reported (Some p) sane = taken_task w task reported p.since p.task sane.1
 
-taken_side : (w round last task : ℕ) (b : Bool) (i : Interest) → Sane round last task i → is_in w (taken_of b i) ≡ ((b && waits (side_of i)) && (task == w))
-taken_side w round last task true i sane = taken_place w task last i.reported i.polled sane.1
-taken_side w round last task false i sane = refl
+-- where no future waits, the polled task is the only one
+tasks-lone : (d : Direction) → d.futures ≡ [] → tasks_of d ≡ task_of d.polled
+tasks-lone d none = ap (λ futures. task_of d.polled ++ future_tasks futures) none ∙ append-nil (task_of d.polled)
+
+taken_side : (w round last task : ℕ) (b : Bool) (d : Direction) → Sane round last task d → is_in w (taken_of b d) ≡ ((b && waits (side_of d)) && (task == w))
+taken_side w round last task true d sane = ap (is_in w) (tasks-lone d sane.2) ∙ taken_place w task last (round_number d.reported) d.polled sane.1
+taken_side w round last task false d sane = refl
 
 two_sides : (c d x : Bool) → ((c && x) || (d && x)) ≡ (x && (d || c))
 two_sides true true true = refl
@@ -359,7 +387,7 @@ rounded r0 r1 old new before after woken r round rests up none ordered =
     let tasks : after.tasks.items ≡ taken_by_all (old.ticker + 1) old.sources reports = all.1 ∙ ap (λ x. x ++ taken_by_all (old.ticker + 1) old.sources reports) none in
     record {
       form = round.form;
-      gained = round.gained ∙ ap (λ x. told r0 (round_told None r ++ x)) (rearming-shown (old.ticker + 1) old.sources reports);
+      gained = round.gained ∙ ap (λ x. told r0 (round_told None r ++ x)) (rearming-shown old.ticker old.sources reports sane);
       shows = round-held r (map shown old.sources) ∙ (sym (after_reports-shown (old.ticker + 1) old.sources reports) ∙ ap (λ c. map shown c.sources) (sym round.core));
       due = record {
         rise = ordered.1;
@@ -383,25 +411,25 @@ pub round-tags : {W : Type 0} (woke : W → ℕ → W → Type 0) (timeout : Opt
     tags new.sources ≡ tags old.sources
 round-tags woke timeout r0 r1 old new wakes wakes' r round = ap (λ c. tags c.sources) round.core ∙ tags-after_reports (old.ticker + 1) old.sources (reports_of r.answer)
 
-course_tags : (old : Core) (course : Course) → tags (after_course old course).sources ≡ tags old.sources
-course_tags old Unread = refl
-course_tags old (Read first Unwaited) = refl
-course_tags old (Read first (Waited answer second)) = tags-after_reports (old.ticker + 1) old.sources (reports_of answer)
+course_tags : (old new : Core) (course : Course) (tasks : List ℕ) → CourseSteps old course tasks new → tags new.sources ≡ tags old.sources
+course_tags old new Unread tasks steps = ap (λ c. tags c.sources) steps.core
+course_tags old new (Read first pause) tasks steps =
+    ap (λ c. tags c.sources) (course-core old new first pause tasks steps) ∙ tags-after_reports (old.ticker + 1) old.sources (pause_reports pause)
 
 -- what a refused round came to
-abbrev pub RanSo : Option (List Event) → Option (List Event) → ℕ → ℕ → Core → Core → Woken → Woken → ReactError → Type 0
+abbrev pub RanSo : Option (List Event) → Option (List Event) → ℕ → ℕ → ReactorState → ReactorState → Woken → Woken → ReactError → Type 0
 RanSo r0 r1 m0 m1 old new wakes wakes' e = (course : Course) × (tries : List Try) × Ran WokenBy None r0 r1 m0 m1 old new wakes wakes' (Err e) course tries
 
 abbrev pub Same : ReactorState → ReactorState → Option (List Event) → Option (List Event) → Woken → Woken → ℕ → ℕ → Type 0
 Same old new r0 r1 wakes wakes' m0 m1 = (new ≡ old) × (wakes' ≡ wakes) × (r1 ≡ r0) × (m1 ≡ m0)
 
-ran_tags : (r0 r1 : Option (List Event)) (m0 m1 : ℕ) (old new : Core) (wakes wakes' : Woken) (e : ReactError) → RanSo r0 r1 m0 m1 old new wakes wakes' e → tags new.sources ≡ tags old.sources
-ran_tags r0 r1 m0 m1 old new wakes wakes' e (course, tries, ran) = ap (λ c. tags c.sources) ran.core ∙ course_tags old course
+ran_tags : (r0 r1 : Option (List Event)) (m0 m1 : ℕ) (old new : ReactorState) (wakes wakes' : Woken) (e : ReactError) → RanSo r0 r1 m0 m1 old new wakes wakes' e → tags new.core.sources ≡ tags old.core.sources
+ran_tags r0 r1 m0 m1 old new wakes wakes' e (course, tries, ran) = course_tags old.core new.core course ran.tasks ran.steps
 
-pub refused-tags : (r0 r1 : Option (List Event)) (m0 m1 : ℕ) (old new : ReactorState) (wakes wakes' : Woken) (e : ReactError) → UnlessExhausted {T = Unit {0}} (Err e) (RanSo r0 r1 m0 m1 old.core new.core wakes wakes' e) →
+pub refused-tags : (r0 r1 : Option (List Event)) (m0 m1 : ℕ) (old new : ReactorState) (wakes wakes' : Woken) (e : ReactError) → UnlessExhausted {T = Unit {0}} (Err e) (RanSo r0 r1 m0 m1 old new wakes wakes' e) →
     OnExhausted {T = Unit {0}} (Err e) (Same old new r0 r1 wakes wakes' m0 m1) → tags new.core.sources ≡ tags old.core.sources
-refused-tags r0 r1 m0 m1 old new wakes wakes' react_err.Poller ran same = ran_tags r0 r1 m0 m1 old.core new.core wakes wakes' react_err.Poller ran
-refused-tags r0 r1 m0 m1 old new wakes wakes' react_err.OutOfMemory ran same = ran_tags r0 r1 m0 m1 old.core new.core wakes wakes' react_err.OutOfMemory ran
+refused-tags r0 r1 m0 m1 old new wakes wakes' react_err.Poller ran same = ran_tags r0 r1 m0 m1 old new wakes wakes' react_err.Poller ran
+refused-tags r0 r1 m0 m1 old new wakes wakes' react_err.OutOfMemory ran same = ran_tags r0 r1 m0 m1 old new wakes wakes' react_err.OutOfMemory ran
 refused-tags r0 r1 m0 m1 old new wakes wakes' (react_err.Exhausted c value) ran same = ap (λ x. tags x.core.sources) same.0
 
 -- an arming is no round
@@ -415,30 +443,33 @@ tries_waits [] = refl
 tries_waits (t ∷ tries) = waits_in-append (modify_told t.0.wire t.0.key t.0.read t.0.write t.1) (tries_told tries)
     ∙ (ap (λ n. n + waits_in (tries_told tries)) (modify_waits t.0.wire t.0.key t.0.read t.0.write t.1) ∙ ap (λ n. 0 + n) (tries_waits tries))
 
-second_waits : (first : ℕ) (answer : WaitAnswer) (second : Second) → waits_in (course_told None (Read first (Waited answer second))) ≡ 1
-second_waits first answer NotRead = refl
-second_waits first answer (ReadAt moment) = refl
-second_waits first answer Unreadable = refl
+-- one Wait was told
+paused_waits : (first : ℕ) (pause : Pause) (tries : List Try) → waits_in (course_told None (Read first pause)) ≡ 1 → waits_in (course_told None (Read first pause) ++ tries_told tries) ≡ 1
+paused_waits first pause tries one = waits_in-append (course_told None (Read first pause)) (tries_told tries)
+    ∙ (ap (λ n. n + waits_in (tries_told tries)) one ∙ ap (λ n. 1 + n) (tries_waits tries))
 
-waited_waits : (first : ℕ) (answer : WaitAnswer) (second : Second) (tries : List Try) → waits_in (course_told None (Read first (Waited answer second)) ++ tries_told tries) ≡ 1
-waited_waits first answer second tries = waits_in-append (course_told None (Read first (Waited answer second))) (tries_told tries)
-    ∙ (ap (λ n. n + waits_in (tries_told tries)) (second_waits first answer second) ∙ ap (λ n. 1 + n) (tries_waits tries))
+paused_told : (r0 r1 : Option (List Event)) (m0 m1 : ℕ) (old new : ReactorState) (wakes wakes' : Woken) (first : ℕ) (pause : Pause) (tries : List Try) → Ran WokenBy None r0 r1 m0 m1 old new wakes wakes' (Err react_err.Poller) (Read first pause) tries →
+    new.core.hands ≡ None → waits_in (course_told None (Read first pause)) ≡ 1 → Told r0 r1 old.core new.core (course_told None (Read first pause) ++ tries_told tries)
+paused_told r0 r1 m0 m1 old new wakes wakes' first pause tries ran closed one =
+    let core : new.core ≡ finished_round (begun_round old.core) (pause_reports pause) = course-core old.core new.core first pause ran.tasks ran.steps in record {
+      gained = ran.gained;
+      made = ap (λ c. c.made) core;
+      closed = closed;
+      ticker = ap (λ c. c.ticker) core ∙ ap (λ n. old.core.ticker + n) (sym (paused_waits first pause tries one));
+    }
 
-poller_told : (r0 r1 : Option (List Event)) (m0 m1 : ℕ) (old new : Core) (wakes wakes' : Woken) (course : Course) (tries : List Try) → Ran WokenBy None r0 r1 m0 m1 old new wakes wakes' (Err react_err.Poller) course tries → new.hands ≡ None →
-    Told r0 r1 old new (course_told None course ++ tries_told tries)
+poller_told : (r0 r1 : Option (List Event)) (m0 m1 : ℕ) (old new : ReactorState) (wakes wakes' : Woken) (course : Course) (tries : List Try) → Ran WokenBy None r0 r1 m0 m1 old new wakes wakes' (Err react_err.Poller) course tries → new.core.hands ≡ None →
+    Told r0 r1 old.core new.core (course_told None course ++ tries_told tries)
 poller_told r0 r1 m0 m1 old new wakes wakes' Unread tries ran closed = let e = ran.answers in absurd cc
 poller_told r0 r1 m0 m1 old new wakes wakes' (Read first Unwaited) tries ran closed = let e = ran.answers in absurd cc
-poller_told r0 r1 m0 m1 old new wakes wakes' (Read first (Waited answer second)) tries ran closed = record {
-  gained = ran.gained;
-  made = ap (λ c. c.made) ran.core;
-  closed = closed;
-  ticker = ap (λ c. c.ticker) ran.core ∙ ap (λ n. old.ticker + n) (sym (waited_waits first answer second tries));
-}
+poller_told r0 r1 m0 m1 old new wakes wakes' (Read first (Waited answer)) tries ran closed = paused_told r0 r1 m0 m1 old new wakes wakes' first (Waited answer) tries ran closed refl
+poller_told r0 r1 m0 m1 old new wakes wakes' (Read first (Reread answer moment)) tries ran closed = paused_told r0 r1 m0 m1 old new wakes wakes' first (Reread answer moment) tries ran closed refl
+poller_told r0 r1 m0 m1 old new wakes wakes' (Read first (Unreread answer)) tries ran closed = paused_told r0 r1 m0 m1 old new wakes wakes' first (Unreread answer) tries ran closed refl
 
-poller_refused : (r0 r1 : Option (List Event)) (m0 m1 : ℕ) (old new : Core) (wakes wakes' : Woken) → RanSo r0 r1 m0 m1 old new wakes wakes' react_err.Poller → new.hands ≡ None → (more : List Event) × Told r0 r1 old new more
+poller_refused : (r0 r1 : Option (List Event)) (m0 m1 : ℕ) (old new : ReactorState) (wakes wakes' : Woken) → RanSo r0 r1 m0 m1 old new wakes wakes' react_err.Poller → new.core.hands ≡ None → (more : List Event) × Told r0 r1 old.core new.core more
 poller_refused r0 r1 m0 m1 old new wakes wakes' (course, tries, ran) closed = (course_told None course ++ tries_told tries, poller_told r0 r1 m0 m1 old new wakes wakes' course tries ran closed)
 
-memory_refused : (r0 r1 : Option (List Event)) (m0 m1 : ℕ) (old new : Core) (wakes wakes' : Woken) → RanSo r0 r1 m0 m1 old new wakes wakes' react_err.OutOfMemory → (more : List Event) × (r1 ≡ told r0 more)
+memory_refused : (r0 r1 : Option (List Event)) (m0 m1 : ℕ) (old new : ReactorState) (wakes wakes' : Woken) → RanSo r0 r1 m0 m1 old new wakes wakes' react_err.OutOfMemory → (more : List Event) × (r1 ≡ told r0 more)
 memory_refused r0 r1 m0 m1 old new wakes wakes' (course, tries, ran) = (course_told None course ++ tries_told tries, ran.gained)
 
 same_told : (r0 r1 : Option (List Event)) (old new : ReactorState) → new ≡ old → r1 ≡ r0 → new.core.hands ≡ None → Told r0 r1 old.core new.core []
@@ -449,16 +480,16 @@ same_told r0 r1 old new same events closed = record {
   ticker = ap (λ x. x.core.ticker) same ∙ omega arith;
 }
 
-refused_by : (r0 r1 : Option (List Event)) (m0 m1 : ℕ) (old new : ReactorState) (wakes wakes' : Woken) (e : ReactError) → UnlessExhausted {T = Unit {0}} (Err e) (RanSo r0 r1 m0 m1 old.core new.core wakes wakes' e) →
+refused_by : (r0 r1 : Option (List Event)) (m0 m1 : ℕ) (old new : ReactorState) (wakes wakes' : Woken) (e : ReactError) → UnlessExhausted {T = Unit {0}} (Err e) (RanSo r0 r1 m0 m1 old new wakes wakes' e) →
     OnExhausted {T = Unit {0}} (Err e) (Same old new r0 r1 wakes wakes' m0 m1) → NumberedBy {T = Unit {0}} (Err e) old.core.ticker → new.core.hands ≡ None → RefusedAt (open_error e) r0 r1 old.core new.core
-refused_by r0 r1 m0 m1 old new wakes wakes' react_err.Poller ran same numbered closed = poller_refused r0 r1 m0 m1 old.core new.core wakes wakes' ran closed
-refused_by r0 r1 m0 m1 old new wakes wakes' react_err.OutOfMemory ran same numbered closed = (closed, memory_refused r0 r1 m0 m1 old.core new.core wakes wakes' ran)
+refused_by r0 r1 m0 m1 old new wakes wakes' react_err.Poller ran same numbered closed = poller_refused r0 r1 m0 m1 old new wakes wakes' ran closed
+refused_by r0 r1 m0 m1 old new wakes wakes' react_err.OutOfMemory ran same numbered closed = (closed, memory_refused r0 r1 m0 m1 old new wakes wakes' ran)
 refused_by r0 r1 m0 m1 old new wakes wakes' (react_err.Exhausted c value) ran same numbered closed =
     (numbered.0, numbered.1, ap (λ x. x.core.ticker) same.0 ∙ numbered.2, ([], same_told r0 r1 old new same.0 same.2 closed))
 
 -- an answer of this refusal
 pub round-refused : {T : Type 0} (result : Result T OpenError) (r0 r1 : Option (List Event)) (m0 m1 : ℕ) (old new : ReactorState) (wakes wakes' : Woken) (e : ReactError) → IsErrAnd result (λ x. x ≡ open_error e) →
-    UnlessExhausted {T = Unit {0}} (Err e) (RanSo r0 r1 m0 m1 old.core new.core wakes wakes' e) →
+    UnlessExhausted {T = Unit {0}} (Err e) (RanSo r0 r1 m0 m1 old new wakes wakes' e) →
     OnExhausted {T = Unit {0}} (Err e) (Same old new r0 r1 wakes wakes' m0 m1) → NumberedBy {T = Unit {0}} (Err e) old.core.ticker → new.core.hands ≡ None → Refuses result r0 r1 old.core new.core
 round-refused (Ok v) r0 r1 m0 m1 old new wakes wakes' e is ran same numbered closed = tt
 round-refused (Err x) r0 r1 m0 m1 old new wakes wakes' e is ran same numbered closed =

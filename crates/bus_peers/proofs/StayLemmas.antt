@@ -5,7 +5,7 @@ use Rattle.react_core.specs.Told.{told, told-told, told-nothing}
 use Rattle.react_core.specs.Core.{Core, HasSource, removed}
 use Rattle.react_core.specs.Causes.{RemoveTold}
 use Rattle.react_core.specs.Sources.{source_of, without}
-use Rattle.react_core.specs.declared.source.Source.{Source}
+use Rattle.react_core.specs.Places.{Source}
 use Rattle.react_core.specs.declared.reactor.ReactError.{ReactError}
 use Rattle.react_core.specs.declared.reactor.ReactError.TheVariants as react_error
 use Rattle.react_core.specs.declared.outside.Event.{Event}
@@ -19,7 +19,7 @@ use Rattle.bus_peers.specs.declared.visiting.Slot.TheVariants as slot
 use Rattle.bus_peers.specs.Registry.{Held, held_at, registry, without_held}
 use Rattle.bus_peers.specs.Settled.{waits_in}
 use Rattle.bus_peers.specs.Shown.{Rests, shown, tags, tag_at, without_tag, AllSane, Single}
-use Rattle.bus_peers.specs.Visited.{Keeps, Holds, Turns, Stays, arms_told}
+use Rattle.bus_peers.specs.Visited.{KeepsCall, Holds, Turns, Stays, arms_told}
 use Rattle.bus_peers.proofs.Talks.{registry-append, waits_in-append}
 use Rattle.bus_peers.proofs.Registries.{without-shown}
 use Rattle.bus_peers.proofs.Readies.{held-source}
@@ -59,8 +59,8 @@ pub kept-source : (old mid : Core) (key wire : ℕ) → Holds old key wire → t
 kept-source old mid key wire (h, at, own) same = tag-has_source mid.sources key h.wire (ap (λ ts. tag_at ts key) same ∙ held-tag old.sources key h at)
 
 -- what was told so far, and a removal
-pub keeps-removed : {T : Type 0} (key : ℕ) (r : Result T ReactError) (r0 r1 r2 : Option (List Event)) (old mid new : Core) → Keeps (tags old.sources) r0 r1 old mid → new ≡ removed mid key →
-    RemoveTold (source_of mid.sources key) key r r1 r2 → Keeps (without_tag (tags old.sources) key) r0 r2 old new
+pub keeps-removed : {T : Type 0} (key : ℕ) (r : Result T ReactError) (r0 r1 r2 : Option (List Event)) (old mid new : Core) → KeepsCall (tags old.sources) r0 r1 old mid → new ≡ removed mid key →
+    RemoveTold (source_of mid.sources key) key r r1 r2 → KeepsCall (without_tag (tags old.sources) key) r0 r2 old new
 keeps-removed key r r0 r1 r2 old mid new (first, k) is gone =
     let more = removed-told (source_of mid.sources key) key r r1 r2 gone in
     keeps-after (without_tag (tags old.sources) key) r0 r1 r2 old mid new first k.gained k.waits k.ticker k.made (
@@ -75,7 +75,7 @@ keeps-removed key r r0 r1 r2 old mid new (first, k) is gone =
       },
     )
 
-pub kept-turns : (wire key : ℕ) (r0 r1 : Option (List Event)) (old mid : Core) (c c' : Opening) (t : Turn) → Turns wire key r0 r1 old mid c c' t → Keeps (tags old.sources) r0 r1 old mid
+pub kept-turns : (wire key : ℕ) (r0 r1 : Option (List Event)) (old mid : Core) (c c' : Opening) (t : Turn) → Turns wire key r0 r1 old mid c c' t → KeepsCall (tags old.sources) r0 r1 old mid
 kept-turns wire key r0 r1 old mid c c' t (h, h', es, o, a) = (
   es ++ arms_told o,
   record {

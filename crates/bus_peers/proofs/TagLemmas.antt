@@ -4,7 +4,7 @@ use Rattle.std.proofs.lemmas.Bool.{and_parts, eq-eqb, eqb-false, eqb-true, lt-lt
 use Rattle.std.proofs.lemmas.Grind.{common_steps}
 use Rattle.std.specs.Option.{option_map}
 use Rattle.react_core.specs.declared.outside.Report.{Report}
-use Rattle.react_core.specs.declared.source.Source.{Source}
+use Rattle.react_core.specs.Places.{Source}
 use Rattle.react_core.specs.Sources.{source_of, with_source, with_new, without}
 use Rattle.react_core.specs.Reports.{after_report, after_report_of, after_reports, reported}
 use Rattle.bus_peers.specs.Registry.{Held, held_at, Apart, Distinct}

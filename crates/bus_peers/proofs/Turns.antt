@@ -23,7 +23,7 @@ use Rattle.bus_peers.specs.Registry.{Held, Side, Idle, Waits, Reported, stopped,
 use Rattle.bus_peers.specs.Asking.{asks, begins, arms_at, last_stop}
 use Rattle.bus_peers.specs.Settled.{waits_in}
 use Rattle.bus_peers.specs.Shown.{Rests, shown, Tags, tags}
-use Rattle.bus_peers.specs.Visited.{is_awake, ending_of, Keeps, Holds, arms_told, asks_again, Readied, stands_at, GoesOn, Stops, TurnsTo, Turns, may_ask, OnAgain}
+use Rattle.bus_peers.specs.Visited.{is_awake, ending_of, KeepsCall, Holds, arms_told, asks_again, Readied, stands_at, GoesOn, Stops, TurnsTo, Turns, may_ask, OnAgain}
 use Rattle.bus_peers.proofs.Talks.{registry-append, asks-append, last_stop-append, goes-append, waits_in-append, AreCalls-append, stop_step, EndedBy, StoppedBy, poll-waits, poll-ended, poll-stopped}
 use Rattle.bus_peers.proofs.Readies.{stopped-wire}
 use Rattle.bus_peers.proofs.Keeps.{noted-keeps}
@@ -39,7 +39,7 @@ no-waits-append : (a b : List Event) → waits_in a ≡ 0 → waits_in b ≡ 0 �
 no-waits-append a b none none' = waits_in-append a b ∙ rw (none, none') refl
 
 pub keeps-after : (expected : Tags) (r0 r1 r2 : Option (List Event)) (old mid new : Core) (first : List Event) → r1 ≡ told r0 first → waits_in first ≡ 0 → mid.ticker ≡ old.ticker → mid.made ≡ old.made →
-    Keeps expected r1 r2 mid new → Keeps expected r0 r2 old new
+    KeepsCall expected r1 r2 mid new → KeepsCall expected r0 r2 old new
 keeps-after expected r0 r1 r2 old mid new first gained none ticker made (more, k) = (
   first ++ more,
   record {
@@ -52,7 +52,7 @@ keeps-after expected r0 r1 r2 old mid new first gained none ticker made (more, k
   },
 )
 
-pub keeps-poll : (wire : ℕ) (r0 r1 : Option (List Event)) (core : Core) (c c' : Opening) (answer : Step) → Rests core → Polls Opening StandsIn written_of wire c c' r0 r1 answer → Keeps (tags core.sources) r0 r1 core core
+pub keeps-poll : (wire : ℕ) (r0 r1 : Option (List Event)) (core : Core) (c c' : Opening) (answer : Step) → Rests core → Polls Opening StandsIn written_of wire c c' r0 r1 answer → KeepsCall (tags core.sources) r0 r1 core core
 keeps-poll wire r0 r1 core c c' answer rests polls = (
   polls.events ++ polls.final,
   record {
@@ -66,7 +66,7 @@ keeps-poll wire r0 r1 core c c' answer rests polls = (
 )
 
 pub keeps-ready : (wire : ℕ) (r0 r1 r2 : Option (List Event)) (old new : Core) (c c' : Opening) (answer : Step) → Polls Opening StandsIn written_of wire c c' r0 r1 answer →
-    Keeps (tags old.sources) r1 r2 old new → Keeps (tags old.sources) r0 r2 old new
+    KeepsCall (tags old.sources) r1 r2 old new → KeepsCall (tags old.sources) r0 r2 old new
 keeps-ready wire r0 r1 r2 old new c c' answer polls = keeps-after (tags old.sources) r0 r1 r2 old old new (polls.events ++ polls.final) polls.moves.gained (poll-waits wire r0 r1 c c' answer polls) refl refl
 
 -- ---- a turn that ends
@@ -272,7 +272,7 @@ turns-more wire key r0 r1 r2 old mid new c c1 c2 t (h, h', es, o, a) (k, k', es2
     )
 
 pub keeps-turns : (expected : Tags) (wire key : ℕ) (r0 r1 r2 : Option (List Event)) (old mid new : Core) (c c' : Opening) (t : Turn) →
-    Turns wire key r0 r1 old mid c c' t → Keeps expected r1 r2 mid new → Keeps expected r0 r2 old new
+    Turns wire key r0 r1 old mid c c' t → KeepsCall expected r1 r2 mid new → KeepsCall expected r0 r2 old new
 keeps-turns expected wire key r0 r1 r2 old mid new c c' t (h, h', es, o, a) kept = keeps-after expected r0 r1 r2 old mid new (es ++ arms_told o) a.gained a.waits a.ticker a.made kept
 
 -- some turns that each asked again, or none so far
@@ -285,11 +285,11 @@ turning-more wire key r0 r1 r2 old mid new c c1 c2 t (inl (r, core, client)) tur
     subst (λ x. Turns wire key r0 r2 x new c c2 t) core (subst (λ x. Turns wire key x r2 mid new c c2 t) r (subst (λ x. Turns wire key r1 r2 mid new x c2 t) client turns))
 turning-more wire key r0 r1 r2 old mid new c c1 c2 t (inr first) turns = turns-more wire key r0 r1 r2 old mid new c c1 c2 t first turns
 
-pub turning-keeps : (wire key : ℕ) (r0 r1 r2 : Option (List Event)) (old mid new : Core) (c c1 : Opening) → Turning wire key r0 r1 old mid c c1 → Keeps (tags mid.sources) r1 r2 mid new → Keeps (tags old.sources) r0 r2 old new
+pub turning-keeps : (wire key : ℕ) (r0 r1 r2 : Option (List Event)) (old mid new : Core) (c c1 : Opening) → Turning wire key r0 r1 old mid c c1 → KeepsCall (tags mid.sources) r1 r2 mid new → KeepsCall (tags old.sources) r0 r2 old new
 turning-keeps wire key r0 r1 r2 old mid new c c1 (inl (r, core, client)) kept =
-    subst (λ x. Keeps (tags x.sources) r0 r2 x new) core (subst (λ x. Keeps (tags mid.sources) x r2 mid new) r kept)
+    subst (λ x. KeepsCall (tags x.sources) r0 r2 x new) core (subst (λ x. KeepsCall (tags mid.sources) x r2 mid new) r kept)
 turning-keeps wire key r0 r1 r2 old mid new c c1 (inr (h, h', es, o, a)) kept =
-    let kept' : Keeps (tags old.sources) r1 r2 mid new = subst (λ x. Keeps x r1 r2 mid new) a.tags kept in
+    let kept' : KeepsCall (tags old.sources) r1 r2 mid new = subst (λ x. KeepsCall x r1 r2 mid new) a.tags kept in
     keeps-turns (tags old.sources) wire key r0 r1 r2 old mid new c c1 turn.Again (h, h', es, o, a) kept'
 
 pub turning-holds : (wire key : ℕ) (r0 r1 : Option (List Event)) (old mid : Core) (c c1 : Opening) → Holds old key wire → Turning wire key r0 r1 old mid c c1 → Holds mid key wire

@@ -1,14 +1,18 @@
 -- The reports of a wait.
-use Rattle.std.proofs.Common.{◌≡◌, ℕ, zero, suc, ◌&&◌, ◌+◌, ◌<◌, true, List, [], ◌∷◌, ◌++◌, length, take, drop, map, Option, Some, None, refl, sym, ap, ◌∙◌, arith, eq-eqb, get_or}
+use Rattle.std.proofs.Common.{◌≡◌, ℕ, zero, suc, ◌&&◌, ◌+◌, ◌<◌, true, List, [], ◌∷◌, ◌++◌, length, take, drop, map, Option, Some, None, Result, Ok, Err, refl, sym, ap, ◌∙◌, arith, eq-eqb, get_or}
 use Rattle.std.specs.List.{filter_map, starts_with, cons_option}
 use Rattle.std.specs.Option.{option_to_list}
 use Rattle.std.specs.Prelude.{slice_index_or}
 use Rattle.std.proofs.lemmas.Grind.{common_steps}
-use Rattle.std.proofs.lemmas.List.{take_more}
+use Rattle.std.proofs.lemmas.List.{take_more, append-nil}
 use Rattle.std.proofs.lemmas.List.Elements.{filter_map-append}
+use Rattle.react_core.specs.Told.{wait_told}
 use Rattle.react_core.specs.declared.outside.Event.{Event}
 use Rattle.react_core.specs.declared.outside.Event.TheVariants as event
+use Rattle.react_core.specs.declared.outside.Fault.{Fault}
+use Rattle.react_core.specs.declared.outside.Fault.TheVariants as fault
 use Rattle.react_core.specs.declared.outside.Report.{Report}
+use Rattle.react_core.specs.declared.outside.Waited.{Waited}
 use Rattle.react_core.specs.declared.outside.WaitAnswer.{WaitAnswer}
 use Rattle.react_core.specs.declared.outside.WaitAnswer.TheVariants as wait_answer
 use Rattle.bus_script.specs.declared.line.Ready.{Ready}
@@ -19,7 +23,7 @@ use Rattle.bus_script.specs.declared.line.ScriptWait.TheVariants as script_wait
 use Rattle.bus_peers.specs.declared.queues.Queue.{Queue}
 use Rattle.bus_peers.specs.declared.queues.Answers.{Answers}
 use Rattle.bus_peers.specs.Queues.{next_answer}
-use Rattle.bus_peers.specs.Plays.{report_eq, key_named, report_with, report_of, reports_of, source_key, is_wait_given}
+use Rattle.bus_peers.specs.Plays.{report_eq, key_named, report_with, report_of, reports_of, source_key, is_wait_given, wait_given, Play, OnAnswer, GainsWait, AnswersWait}
 use Rattle.bus_peers.specs.Cursors.{whole, left, script_of, rest_of, Plays, key_in, report_in}
 use Rattle.bus_peers.proofs.PlayLemmas.{bool_eq-refl, only_if-true, plays_on}
 
@@ -75,3 +79,26 @@ plays_wait a waits told told' keys last timeout answer p given rest all now =
     (rw sessions given) ∙ ap (λ (n : List ScriptWait). Some (record (rest_of a) { waits = n })) (sym rest))
     (ap (λ (n : List ScriptWait). record (script_of a) { waits = n }) all)
     p.sources p.sessions)
+
+-- the reports that a slice of this room is given
+pub reports_exact : (keys : List (Option ℕ)) (told : List Event) (room : ℕ) (readies : List Ready) (reports : List Report) →
+    ((session : ℕ) → session < length keys → slice_index_or keys session None ≡ source_key told session) →
+    reports ≡ take room (filter_map (report_in keys) readies) →
+    reports ≡ take room (reports_of (length keys) told readies)
+reports_exact keys told room readies reports are given = given ∙ ap (take room) (reports_are keys told are readies)
+
+gains_wait : (a : Answers) (told : List Event) (keys : List (Option ℕ)) (last room : ℕ) (timeout : Option ℕ) (after : Play) → Plays a told keys last →
+    after.told ≡ told ++ event.Wait timeout (wait_given room (length keys) told (next_answer (left a.waits))) ∷ [] →
+    GainsWait room timeout (record { script = script_of a; told = told }) after
+gains_wait a told keys last room timeout after p now =
+    let sessions : length keys ≡ length (map left a.dials.items) = grind (arith, common_steps, p.sessions) in
+    (rest_of a, p.played, now ∙ ap (λ n. told ++ event.Wait timeout (wait_given room n told (next_answer (left a.waits))) ∷ []) sessions)
+
+-- a wait that told its answer has what the script has left
+pub answers_wait : (a : Answers) (told : List Event) (keys : List (Option ℕ)) (last room : ℕ) (timeout : Option ℕ) (reports : List Report) (after : Play) (result : Result Waited Fault) →
+    Plays a told keys last → after.told ≡ told ++ wait_told timeout reports result →
+    OnAnswer result (after.told ≡ told ++ event.Wait timeout (wait_given room (length keys) told (next_answer (left a.waits))) ∷ []) →
+    AnswersWait room timeout (record { script = script_of a; told = told }) after result
+answers_wait a told keys last room timeout reports after (Err fault.OutOfMemory) p now exact = now ∙ append-nil told
+answers_wait a told keys last room timeout reports after (Err fault.Failed) p now exact = gains_wait a told keys last room timeout after p exact
+answers_wait a told keys last room timeout reports after (Ok v) p now exact = gains_wait a told keys last room timeout after p exact

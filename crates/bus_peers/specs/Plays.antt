@@ -1,9 +1,13 @@
 -- What a scene answers from its queues, and which records follow a script.
-use Rattle.std.specs.Prelude.{◌≡◌, ℕ, ◌==◌, nat_lt, Bool, true, false, not, ◌&&◌, if◌then◌else◌, List, [], ◌∷◌, ◌++◌, Option, Some, None, is_some, length, take, drop, min, max, fold, count_by, slice_set}
+use Rattle.std.specs.Prelude.{◌≡◌, ◌<◌, ◌-◌, ◌^◌, ℕ, ◌==◌, nat_lt, Bool, true, false, not, ◌&&◌, if◌then◌else◌, List, [], ◌∷◌, ◌++◌, Option, Some, None, Result, Ok, Err, is_some, length, take, drop, min, max, fold, count_by, slice_set}
 use Rattle.std.specs.List.{filter_map, list_all, starts_with}
 use Rattle.std.specs.Str.{bytes_eq}
+use Rattle.std.proofs.Common.{arith}
+use Rattle.react_core.specs.Outer.{Outer, CountsFit}
 use Rattle.react_core.specs.declared.outside.Event.{Event}
 use Rattle.react_core.specs.declared.outside.Event.TheVariants as event
+use Rattle.react_core.specs.declared.outside.Fault.{Fault}
+use Rattle.react_core.specs.declared.outside.Fault.TheVariants as fault
 use Rattle.react_core.specs.declared.outside.Peer.{Peer}
 use Rattle.react_core.specs.declared.outside.Peer.TheVariants as peer
 use Rattle.react_core.specs.declared.outside.Report.{Report}
@@ -173,6 +177,13 @@ is_wait_given sessions told (Some script_wait.Interrupted) wait_answer.Interrupt
 is_wait_given sessions told (Some script_wait.Failed) wait_answer.Failed = true
 is_wait_given sessions told asked a = false
 
+-- The answer to a wait that is lent so much room, exactly: of the reports that name a source, the first ones up to the room.
+abbrev pub wait_given : ℕ → ℕ → List Event → Option ScriptWait → WaitAnswer
+wait_given room sessions told None = wait_answer.Reported []
+wait_given room sessions told (Some (script_wait.Reported readies)) = wait_answer.Reported (take room (reports_of sessions told readies))
+wait_given room sessions told (Some script_wait.Interrupted) = wait_answer.Interrupted
+wait_given room sessions told (Some script_wait.Failed) = wait_answer.Failed
+
 -- Records.
 
 abbrev pub only_if : {X : Type 0} → Bool → X → Option X
@@ -216,6 +227,24 @@ pub record Play : Type 0 where
   pub script : Queues
   pub told : List Event
 
+-- what holds where the answer is not want of memory
+abbrev pub OnAnswer : {T : Type 0} → Result T Fault → Type 0 → Type 0
+OnAnswer (Ok v) P = P
+OnAnswer (Err fault.Failed) P = P
+OnAnswer (Err fault.OutOfMemory) P = Unit {0}
+
+abbrev pub GainsWait : ℕ → Option ℕ → Play → Play → Type 0
+GainsWait room timeout before after =
+    (left : Queues) × (played before.script before.told ≡ Some left)
+    × (after.told ≡ before.told ++ event.Wait timeout (wait_given room (length left.dials) before.told (next_answer left.waits)) ∷ [])
+
+-- A wait that is lent so much room: what the script has left is due, and the record gains the event with its next answer.
+-- For want of memory nothing is told.
+abbrev pub AnswersWait : {T : Type 0} → ℕ → Option ℕ → Play → Play → Result T Fault → Type 0
+AnswersWait room timeout before after (Err fault.OutOfMemory) = after.told ≡ before.told
+AnswersWait room timeout before after (Err fault.Failed) = GainsWait room timeout before after
+AnswersWait room timeout before after (Ok v) = GainsWait room timeout before after
+
 -- What a record tells of faults.
 
 abbrev pub is_poller_fault : Event → Bool
@@ -243,6 +272,34 @@ faults_of_wire told wire = count_by (is_wire_fault wire) told
 
 abbrev pub faults_of_dials : List Event → ℕ → ℕ
 faults_of_dials told wire = count_by (is_dial_fault wire) told
+
+-- a count of faults, which stands still at its type's end
+abbrev pub counted : ℕ → ℕ
+counted faults = min faults (2 ^ 64 - 1)
+
+-- what contracts see of a scene
+abbrev pub outer_of : Play → Outer Queues
+outer_of p = record {
+  origin = p.script;
+  events = Some p.told;
+  moment = last_reading p.told;
+  poller_faults = counted (faults_of_poller p.told);
+  wire_faults = λ wire. counted (faults_of_wire p.told wire);
+  dial_faults = λ wire. counted (faults_of_dials p.told wire);
+  doors = record { faults = 0; arrivals = [] };
+  ample = false;
+}
+
+is_counted : (faults : ℕ) → counted faults < 2 ^ 64
+is_counted faults = omega arith
+
+pub scene_counts_fit : (p : Play) → CountsFit (outer_of p)
+scene_counts_fit p = record {
+  poller = is_counted (faults_of_poller p.told);
+  wires = λ wire. is_counted (faults_of_wire p.told wire);
+  dials = λ wire. is_counted (faults_of_dials p.told wire);
+  doors = omega arith;
+}
 
 -- Scripts without faults.
 

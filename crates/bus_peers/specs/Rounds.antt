@@ -3,10 +3,10 @@ use Rattle.std.specs.Prelude.{◌≡◌, ℕ, ◌+◌, Bool, true, false, List, 
 use Rattle.std.specs.List.{list_all}
 use Rattle.react_core.specs.declared.outside.Event.{Event}
 use Rattle.react_core.specs.declared.outside.Event.TheVariants as event
-use Rattle.react_core.specs.declared.source.Source.{Source}
+use Rattle.react_core.specs.Places.{Source}
 use Rattle.react_core.specs.Core.{Core, HasSource, removed}
 use Rattle.react_core.specs.Sources.{source_of}
-use Rattle.react_core.specs.Round.{Round, IsRound, reports_of}
+use Rattle.react_core.specs.Round.{reports_of}
 use Rattle.react_core.specs.Told.{told}
 use Rattle.bus_script.specs.declared.ended.Ending.TheVariants as ending
 use Rattle.bus_script.specs.declared.ended.Ended.{Ended}
@@ -15,6 +15,7 @@ use Rattle.bus_peers.specs.declared.visiting.Slot.{Slot}
 use Rattle.bus_peers.specs.declared.visiting.Slot.TheVariants as slot
 use Rattle.bus_peers.specs.declared.open.OpenError.{OpenError}
 use Rattle.bus_peers.specs.declared.open.OpenError.TheVariants as open_err
+use Rattle.bus_peers.specs.RoundEvents.{Round, IsRound}
 use Rattle.bus_peers.specs.Registry.{registry}
 use Rattle.bus_peers.specs.Settled.{AreDue, round_events}
 use Rattle.bus_peers.specs.Shown.{Rests, shown, Tags, has_wire}

@@ -1,9 +1,7 @@
 -- The reactor's sources, as the record shows them.
 use Rattle.std.specs.Prelude.{◌≡◌, ◌<◌, ◌≤◌, ◌^◌, ℕ, Bool, true, false, nat_lt, ◌==◌, if◌then◌else◌, List, [], ◌∷◌, map, Option, Some, None}
 use Rattle.std.specs.List.{list_any, list_all}
-use Rattle.react_core.specs.declared.source.Source.{Source}
-use Rattle.react_core.specs.declared.source.Waiting.{Waiting}
-use Rattle.react_core.specs.declared.source.Interest.{Interest}
+use Rattle.react_core.specs.Places.{Entry, Direction, Source, round_number}
 use Rattle.react_core.specs.Core.{Core}
 use Rattle.react_core.specs.Readiness.{Outcome, Fires, Stays, Begins}
 use Rattle.bus_peers.specs.Registry.{Side, Idle, Waits, Reported, Held, Distinct}
@@ -12,12 +10,12 @@ abbrev pub task_side : Option ℕ → Side
 task_side None = Reported
 task_side (Some task) = Waits
 
-abbrev pub place_side : Option Waiting → Side
+abbrev pub place_side : Option Entry → Side
 place_side None = Idle
 place_side (Some w) = task_side w.task
 
-abbrev pub side_of : Interest → Side
-side_of i = place_side i.polled
+abbrev pub side_of : Direction → Side
+side_of d = place_side d.polled
 
 abbrev pub shown : ℕ × Source → Held
 shown s = record { key = s.0; wire = s.1.wire; read = side_of s.1.read; write = side_of s.1.write }
@@ -33,13 +31,13 @@ abbrev pub SaneTask : ℕ → ℕ → ℕ → Option ℕ → Type 0
 SaneTask task reported since None = since < reported
 SaneTask task reported since (Some stored) = (stored ≡ task) × (reported ≤ since)
 
-abbrev pub SanePlace : ℕ → ℕ → ℕ → Option Waiting → Type 0
+abbrev pub SanePlace : ℕ → ℕ → ℕ → Option Entry → Type 0
 SanePlace task reported last None = Unit {0}
 SanePlace task reported last (Some w) = (w.since ≤ last) × SaneTask task reported w.since w.task
 
--- reports came in rounds up to the first number, interests began in rounds up to the second
-abbrev pub Sane : ℕ → ℕ → ℕ → Interest → Type 0
-Sane round last task i = (i.reported ≤ round) × SanePlace task i.reported last i.polled
+-- reports came in rounds up to the first number, interests began in rounds up to the second, and no future waits
+abbrev pub Sane : ℕ → ℕ → ℕ → Direction → Type 0
+Sane round last task d = (round_number d.reported ≤ round) × SanePlace task (round_number d.reported) last d.polled × (d.futures ≡ [])
 
 abbrev pub SaneSource : ℕ → ℕ → Source → Type 0
 SaneSource round last s = Sane round last s.wire s.read × Sane round last s.wire s.write

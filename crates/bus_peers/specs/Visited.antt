@@ -66,8 +66,8 @@ pub record Kept (expected : Tags) (before after : Option (List Event)) (old new 
   pub closed : new.hands ≡ None
 
 -- the same for some events
-abbrev pub Keeps : Tags → Option (List Event) → Option (List Event) → Core → Core → Type 0
-Keeps expected before after old new = (more : List Event) × Kept expected before after old new more
+abbrev pub KeepsCall : Tags → Option (List Event) → Option (List Event) → Core → Core → Type 0
+KeepsCall expected before after old new = (more : List Event) × Kept expected before after old new more
 
 -- ---- dialling
 

@@ -3,6 +3,8 @@
 ghost use Rattle.std.specs.Prelude.{◌≡◌, ◌<◌, ◌^◌, List, [], length, map, true, Err, IfOk, OnOk, OnErr};
 ghost use Rattle.std.specs.List.{list_all};
 ghost use Rattle.react_core.specs.declared.outside.Event.{Event};
+ghost use Rattle.react_core.specs.Outer.{Keeps};
+ghost use Rattle.react_core.specs.Outer as part;
 ghost use Rattle.react_core.specs.Told.{told};
 ghost use Rattle.bus_peers.specs.declared.open.OpenError.TheVariants as open_err;
 ghost use Rattle.bus_peers.specs.Headline.{is_delete};
@@ -27,10 +29,10 @@ fn remove_source<R: Registrar>(
 ) -> Result<(), OpenError>
     requires held { IsHeld slot.now reactor.old.core }
     ensures removed { reactor.new ≡ record reactor.old { core = without_slot slot.now reactor.old.core } }
-    ensures told { OnOk result (R.events registrar.new ≡ told (R.events registrar.old) (removal_told slot.now reactor.old.core)) }
-    ensures removals { (more : List Event) × (R.events registrar.new ≡ told (R.events registrar.old) more) × (list_all is_delete more ≡ true) }
-    ensures cause { VisitCounted result (R.poller_faults registrar.old) (R.poller_faults registrar.new) }
-    ensures origin { R.origin registrar.new ≡ R.origin registrar.old }
+    ensures told { OnOk result ((R.outer registrar.new).events ≡ told ((R.outer registrar.old).events) (removal_told slot.now reactor.old.core)) }
+    ensures removals { (more : List Event) × ((R.outer registrar.new).events ≡ told ((R.outer registrar.old).events) more) × (list_all is_delete more ≡ true) }
+    ensures cause { VisitCounted result ((R.outer registrar.old).poller_faults) ((R.outer registrar.new).poller_faults) }
+    ensures keeps { Keeps part.Poller (R.outer registrar.old) (R.outer registrar.new) }
 {
     if let Slot::Asleep(sleeper) = slot {
         reactor.remove_io(registrar, sleeper.key)?;
@@ -47,10 +49,10 @@ pub(crate) fn remove_sources<R: Registrar>(
 ) -> Result<(), OpenError>
     requires owned { Owned slots.now.items (tags reactor.old.core.sources) }
     ensures reactor { reactor.new ≡ record reactor.old { core = record reactor.old.core { sources = [] } } }
-    ensures told { OnOk result (R.events registrar.new ≡ told (R.events registrar.old) (closing (length slots.now.items) 0 (map shown reactor.old.core.sources))) }
-    ensures removals { (more : List Event) × (R.events registrar.new ≡ told (R.events registrar.old) more) × (list_all is_delete more ≡ true) }
-    ensures cause { VisitCounted result (R.poller_faults registrar.old) (R.poller_faults registrar.new) }
-    ensures origin { R.origin registrar.new ≡ R.origin registrar.old }
+    ensures told { OnOk result ((R.outer registrar.new).events ≡ told ((R.outer registrar.old).events) (closing (length slots.now.items) 0 (map shown reactor.old.core.sources))) }
+    ensures removals { (more : List Event) × ((R.outer registrar.new).events ≡ told ((R.outer registrar.old).events) more) × (list_all is_delete more ≡ true) }
+    ensures cause { VisitCounted result ((R.outer registrar.old).poller_faults) ((R.outer registrar.new).poller_faults) }
+    ensures keeps { Keeps part.Poller (R.outer registrar.old) (R.outer registrar.new) }
 {
     let mut answer = Ok(());
     for slot in slots {

@@ -15,7 +15,7 @@ pub use bus_script::{Ended, Ending};
 pub use from_script::Played;
 pub use open::{OpenError, open_all};
 pub use queues::QueuedAnswers;
-pub use scene::{Scene, faultless};
+pub use scene::Scene;
 pub use session::{Party, Session};
 
 #[cfg(test)]

@@ -3,8 +3,11 @@
 ghost use Rattle.std.specs.Prelude.{◌≡◌, ◌≢◌, ◌≤◌, ◌<◌, ◌^◌, ◌++◌, ◌+◌, ℕ, List, [], true, length, vec_capacity, OnOk, IfOk};
 ghost use Rattle.std.specs.List.{list_all};
 ghost use Rattle.react_core.specs.Core.{IsIdle};
+ghost use Rattle.react_core.specs.Outer.{Keeps};
+ghost use Rattle.react_core.specs.Outer as part;
 ghost use Rattle.react_core.specs.Told.{told, Rose};
 ghost use Rattle.react_core.specs.declared.outside.Event.{Event};
+ghost use Rattle.bus_peers.specs.Faults.{AllCounted, EndedsCounted};
 ghost use Rattle.bus_peers.specs.Headline.{Opened, RefusedWith, OpenCounted, Completes};
 ghost use Rattle.bus_peers.specs.Sessions.{is_built};
 ghost use Rattle.bus_peers.specs.Shown.{Rests, tags};
@@ -92,15 +95,17 @@ fn open_first<O: Outside>(
     requires empty { reactor.old.core.sources ≡ [] }
     requires unused { slots.old.items ≡ [] }
     requires room { length sessions.now.items ≤ vec_capacity slots.old }
-    ensures went { OnOk result ((rounds : ℕ) → Went sessions.now.items rounds [] 0 reactor.old.core (O.events outside.old) (O.events outside.new) reactor.new.core slots.new.items) }
+    ensures went { OnOk result ((rounds : ℕ) → Went sessions.now.items rounds [] 0 reactor.old.core ((O.outer outside.old).events) ((O.outer outside.new).events) reactor.new.core slots.new.items) }
     ensures rests { OnOk result (Rests reactor.new.core) }
     ensures stands { OnOk result (AllOpen slots.new.items) }
     ensures len { OnOk result (length slots.new.items ≡ length sessions.now.items) }
     ensures few { length slots.new.items < 2 ^ 32 }
     ensures owned { Owned slots.new.items (tags reactor.new.core.sources) }
-    ensures refused { Refuses result (O.events outside.old) (O.events outside.new) reactor.old.core reactor.new.core }
-    ensures cause { VisitCounted result (O.poller_faults outside.old) (O.poller_faults outside.new) }
-    ensures origin { O.origin outside.new ≡ O.origin outside.old }
+    ensures refused { Refuses result ((O.outer outside.old).events) ((O.outer outside.new).events) reactor.old.core reactor.new.core }
+    ensures cause { VisitCounted result ((O.outer outside.old).poller_faults) ((O.outer outside.new).poller_faults) }
+    ensures counted { OnOk result (AllCounted 0 slots.new.items (O.outer outside.old) (O.outer outside.new)) }
+    ensures timers { reactor.new.core.made ≡ reactor.old.core.made }
+    ensures keeps { Keeps part.All (O.outer outside.old) (O.outer outside.new) }
     ensures reports { reactor.new.events ≡ reactor.old.events }
 {
     let mut wire = 0u32;
@@ -126,14 +131,16 @@ fn open_rounds<O: Outside>(
     requires empty { reactor.old.core.sources ≡ [] }
     requires unused { slots.old.items ≡ [] }
     requires room { length sessions.now.items ≤ vec_capacity slots.old }
-    ensures rested { OnOk result ((q : List Event) × (armed : ℕ) × Rested sessions.now.items rounds reactor.old.core (O.events outside.old) (O.events outside.new) reactor.new.core slots.new.items q armed) }
-    ensures halted { Halts result sessions.now.items rounds reactor.old.core (O.events outside.old) (O.events outside.new) reactor.new.core slots.new.items }
+    ensures rested { OnOk result ((q : List Event) × (armed : ℕ) × Rested sessions.now.items rounds reactor.old.core ((O.outer outside.old).events) ((O.outer outside.new).events) reactor.new.core slots.new.items q armed) }
+    ensures halted { Halts result sessions.now.items rounds reactor.old.core ((O.outer outside.old).events) ((O.outer outside.new).events) reactor.new.core slots.new.items }
     ensures len { OnOk result (length slots.new.items ≡ length sessions.now.items) }
     ensures few { length slots.new.items < 2 ^ 32 }
     ensures owned { Owned slots.new.items (tags reactor.new.core.sources) }
-    ensures refused { Refuses result (O.events outside.old) (O.events outside.new) reactor.old.core reactor.new.core }
-    ensures cause { OpenCounted result (O.poller_faults outside.old) (O.poller_faults outside.new) }
-    ensures origin { O.origin outside.new ≡ O.origin outside.old }
+    ensures refused { Refuses result ((O.outer outside.old).events) ((O.outer outside.new).events) reactor.old.core reactor.new.core }
+    ensures cause { OpenCounted result ((O.outer outside.old).poller_faults) ((O.outer outside.new).poller_faults) }
+    ensures counted { OnOk result (AllCounted 0 slots.new.items (O.outer outside.old) (O.outer outside.new)) }
+    ensures timers { reactor.new.core.made ≡ reactor.old.core.made }
+    ensures keeps { Keeps part.All (O.outer outside.old) (O.outer outside.new) }
     ensures reports { reactor.new.events ≡ reactor.old.events }
 {
     open_first(alloc, reactor, outside, sessions, slots)?;
@@ -151,13 +158,16 @@ fn open_over<O: Outside>(
     requires idle { IsIdle reactor.old.core }
     requires few { length sessions.now.items < 2 ^ 32 }
     requires built { list_all is_built sessions.now.items ≡ true }
-    ensures opened { (r : List Event) × (O.events outside.new ≡ told (O.events outside.old) r) × IfOk result (λ endeds. Opened sessions.now.items rounds reactor.old.core reactor.new.core endeds.items r) × RefusedWith sessions.now.items rounds reactor.old.core reactor.new.core result r }
+    ensures opened { (r : List Event) × ((O.outer outside.new).events ≡ told ((O.outer outside.old).events) r) × IfOk result (λ endeds. Opened sessions.now.items rounds reactor.old.core reactor.new.core endeds.items r) × RefusedWith sessions.now.items rounds reactor.old.core reactor.new.core result r }
     ensures idle { IsIdle reactor.new.core }
-    ensures cause { OpenCounted result (O.poller_faults outside.old) (O.poller_faults outside.new) }
-    ensures origin { O.origin outside.new ≡ O.origin outside.old }
+    ensures cause { OpenCounted result ((O.outer outside.old).poller_faults) ((O.outer outside.new).poller_faults) }
+    ensures faults { IfOk result (λ endeds. EndedsCounted 0 endeds.items (O.outer outside.old) (O.outer outside.new)) }
+    ensures timers { reactor.new.core.made ≡ reactor.old.core.made }
+    ensures keeps { Keeps part.All (O.outer outside.old) (O.outer outside.new) }
     ensures reports { reactor.new.events ≡ reactor.old.events }
 {
-    reactor.counters_fit();
+    // How many interests were begun fits its type.
+    reactor.fits();
     let mut slots = Vec::with_capacity(alloc, sessions.len())?;
     let opened = open_rounds(alloc, reactor, outside, sessions, rounds, &mut slots);
     let removed = remove_sources(reactor, outside, &slots);
@@ -173,8 +183,11 @@ fn open_over<O: Outside>(
 /// more comes, and those that it makes due are visited. At the end the sources of those that still sleep are taken out.
 ///
 /// At Ok, where the outside tells its record, each session has what its own part of the record alone decides, and the record is
-/// settled. Poller: the poller failed. Exhausted: a round's number was needed, and the reactor's counter stood at its end. After
-/// every answer the reactor is idle.
+/// settled. Whether it tells or not, an ending is Connection only where the count of its wire's dialling rose, and Io only where
+/// that or the count of the wire's own faults did.
+///
+/// Poller: the poller failed. Exhausted: a round's number was needed, and the reactor's counter stood at its end. After every
+/// answer the reactor is idle, and no timer was made.
 pub fn open_all<O: Outside>(
     alloc: Global,
     reactor: &mut Reactor,
@@ -185,11 +198,13 @@ pub fn open_all<O: Outside>(
     requires idle { IsIdle reactor.old.core }
     requires few { length sessions.items < 2 ^ 32 }
     requires built { list_all is_built sessions.items ≡ true }
-    ensures opened { (r : List Event) × (O.events outside.new ≡ told (O.events outside.old) r) × IfOk result (λ endeds. Opened sessions.items rounds reactor.old.core reactor.new.core endeds.items r) × RefusedWith sessions.items rounds reactor.old.core reactor.new.core result r }
-    ensures cause { OpenCounted result (O.poller_faults outside.old) (O.poller_faults outside.new) }
-    ensures complete { ¬ Rose (O.poller_faults outside.old) (O.poller_faults outside.new) → reactor.old.core.ticker + rounds < 2 ^ 64 → Completes result }
+    ensures opened { (r : List Event) × ((O.outer outside.new).events ≡ told ((O.outer outside.old).events) r) × IfOk result (λ endeds. Opened sessions.items rounds reactor.old.core reactor.new.core endeds.items r) × RefusedWith sessions.items rounds reactor.old.core reactor.new.core result r }
+    ensures cause { OpenCounted result ((O.outer outside.old).poller_faults) ((O.outer outside.new).poller_faults) }
+    ensures complete { ¬ Rose ((O.outer outside.old).poller_faults) ((O.outer outside.new).poller_faults) → reactor.old.core.ticker + rounds < 2 ^ 64 → Completes result }
     ensures idle { IsIdle reactor.new.core }
-    ensures origin { O.origin outside.new ≡ O.origin outside.old }
+    ensures faults { IfOk result (λ endeds. EndedsCounted 0 endeds.items (O.outer outside.old) (O.outer outside.new)) }
+    ensures timers { reactor.new.core.made ≡ reactor.old.core.made }
+    ensures keeps { Keeps part.All (O.outer outside.old) (O.outer outside.new) }
     ensures reports { reactor.new.events ≡ reactor.old.events }
 {
     open_over(alloc, reactor, outside, &sessions, rounds)

@@ -1,8 +1,11 @@
 //! Rounds: the reactor waits for all sessions that sleep, and those that a round wakes are visited.
 
 ghost use Rattle.std.specs.Prelude.{◌≡◌, ◌≢◌, ◌<◌, ◌^◌, ◌++◌, ◌∷◌, [], List, ℕ, map, length, true, false, Err, IfOk, OnOk, OnErr};
-ghost use Rattle.react_core.specs.Round.{Round};
+ghost use Rattle.bus_peers.specs.RoundEvents.{Round};
+ghost use Rattle.react_core.specs.Outer.{Keeps};
+ghost use Rattle.react_core.specs.Outer as part;
 ghost use Rattle.react_core.specs.declared.outside.Event.{Event};
+ghost use Rattle.bus_peers.specs.Faults.{CountsOn};
 ghost use Rattle.bus_peers.specs.Headline.{OpenCounted};
 ghost use Rattle.bus_peers.specs.Rounds.{Rounded, WokenBy, HaveWires, OnExhausted};
 ghost use Rattle.bus_peers.specs.Registry.{RisesFrom};
@@ -10,7 +13,7 @@ ghost use Rattle.bus_peers.specs.declared.open.OpenError.TheVariants as open_err
 ghost use Rattle.bus_peers.specs.Settled.{is_in};
 ghost use Rattle.bus_peers.specs.Shown.{Rests, tags, has_wire};
 ghost use Rattle.bus_peers.specs.Slots.{Owned, AllOpen, GoesFrom, GoesRound, GoesRounds, Told, Refuses, Stuck};
-ghost use Rattle.bus_peers.specs.Visited.{VisitCounted, Keeps};
+ghost use Rattle.bus_peers.specs.Visited.{VisitCounted};
 
 use crate::open::OpenError;
 use crate::session::Session;
@@ -71,16 +74,17 @@ fn round<O: Clock + Poller>(
     outside: &mut O,
 ) -> Result<Vec<u64>, OpenError>
     requires rests { Rests reactor.old.core }
-    ensures rounded { IfOk result (λ woken. (r : Round) × Rounded (O.events outside.old) (O.events outside.new) reactor.old.core reactor.new.core woken.items r) }
-    ensures refused { Refuses result (O.events outside.old) (O.events outside.new) reactor.old.core reactor.new.core }
+    ensures rounded { IfOk result (λ woken. (r : Round) × Rounded ((O.outer outside.old).events) ((O.outer outside.new).events) reactor.old.core reactor.new.core woken.items r) }
+    ensures refused { Refuses result ((O.outer outside.old).events) ((O.outer outside.new).events) reactor.old.core reactor.new.core }
     ensures tags { tags reactor.new.core.sources ≡ tags reactor.old.core.sources }
-    ensures exhausted { OnExhausted result (reactor.new ≡ reactor.old × O.events outside.new ≡ O.events outside.old) }
-    ensures cause { OpenCounted result (O.poller_faults outside.old) (O.poller_faults outside.new) }
-    ensures origin { O.origin outside.new ≡ O.origin outside.old }
+    ensures exhausted { OnExhausted result (reactor.new ≡ reactor.old × (O.outer outside.new).events ≡ (O.outer outside.old).events) }
+    ensures cause { OpenCounted result ((O.outer outside.old).poller_faults) ((O.outer outside.new).poller_faults) }
+    ensures timers { reactor.new.core.made ≡ reactor.old.core.made }
+    ensures keeps { Keeps part.Round (O.outer outside.old) (O.outer outside.new) }
     ensures reports { reactor.new.events ≡ reactor.old.events }
 {
-    reactor.counters_fit();
-    reactor.keys_rise();
+    // The keys of the sources rise, so a report names at most one of them.
+    reactor.fits();
     let mut woken = Woken {
         tasks: Vec::new(alloc),
         lost: false,
@@ -101,16 +105,18 @@ fn visit_slot<O: Wire + Registrar>(
     requires owned { Owned slots.old.items (tags reactor.old.core.sources) }
     requires stands { AllOpen slots.old.items }
     requires registered { has_wire wire (tags reactor.old.core.sources) ≡ true }
-    ensures went { OnOk result ((pending : List ℕ) → GoesFrom (wire ∷ pending) pending (O.events outside.old) (O.events outside.new) reactor.old.core reactor.new.core slots.old.items slots.new.items) }
+    ensures went { OnOk result ((pending : List ℕ) → GoesFrom (wire ∷ pending) pending ((O.outer outside.old).events) ((O.outer outside.new).events) reactor.old.core reactor.new.core slots.old.items slots.new.items) }
     ensures rests { OnOk result (Rests reactor.new.core) }
     ensures stands { OnOk result (AllOpen slots.new.items) }
     ensures owned { Owned slots.new.items (tags reactor.new.core.sources) }
     ensures others { (w : ℕ) → w ≢ wire → has_wire w (tags reactor.new.core.sources) ≡ has_wire w (tags reactor.old.core.sources) }
     ensures len { length slots.new.items ≡ length slots.old.items }
-    ensures told { OnOk result ((more : List Event) × Told (O.events outside.old) (O.events outside.new) reactor.old.core reactor.new.core more) }
-    ensures refused { Refuses result (O.events outside.old) (O.events outside.new) reactor.old.core reactor.new.core }
-    ensures cause { VisitCounted result (O.poller_faults outside.old) (O.poller_faults outside.new) }
-    ensures origin { O.origin outside.new ≡ O.origin outside.old }
+    ensures told { OnOk result ((more : List Event) × Told ((O.outer outside.old).events) ((O.outer outside.new).events) reactor.old.core reactor.new.core more) }
+    ensures refused { Refuses result ((O.outer outside.old).events) ((O.outer outside.new).events) reactor.old.core reactor.new.core }
+    ensures cause { VisitCounted result ((O.outer outside.old).poller_faults) ((O.outer outside.new).poller_faults) }
+    ensures counted { OnOk result (CountsOn slots.old.items slots.new.items (O.outer outside.old) (O.outer outside.new)) }
+    ensures timers { reactor.new.core.made ≡ reactor.old.core.made }
+    ensures keeps { Keeps part.All (O.outer outside.old) (O.outer outside.new) }
     ensures reports { reactor.new.events ≡ reactor.old.events }
 {
     let slot = mem::replace(&mut slots[wire as usize], Slot::Refused);
@@ -135,15 +141,17 @@ fn visit_woken<O: Wire + Registrar>(
     requires few { length slots.old.items < 2 ^ 32 }
     requires rise { RisesFrom 0 woken.now }
     requires registered { HaveWires woken.now (tags reactor.old.core.sources) }
-    ensures went { OnOk result (GoesFrom woken.now [] (O.events outside.old) (O.events outside.new) reactor.old.core reactor.new.core slots.old.items slots.new.items) }
+    ensures went { OnOk result (GoesFrom woken.now [] ((O.outer outside.old).events) ((O.outer outside.new).events) reactor.old.core reactor.new.core slots.old.items slots.new.items) }
     ensures rests { OnOk result (Rests reactor.new.core) }
     ensures stands { OnOk result (AllOpen slots.new.items) }
     ensures owned { Owned slots.new.items (tags reactor.new.core.sources) }
     ensures len { length slots.new.items ≡ length slots.old.items }
-    ensures told { OnOk result ((more : List Event) × Told (O.events outside.old) (O.events outside.new) reactor.old.core reactor.new.core more) }
-    ensures refused { Refuses result (O.events outside.old) (O.events outside.new) reactor.old.core reactor.new.core }
-    ensures cause { VisitCounted result (O.poller_faults outside.old) (O.poller_faults outside.new) }
-    ensures origin { O.origin outside.new ≡ O.origin outside.old }
+    ensures told { OnOk result ((more : List Event) × Told ((O.outer outside.old).events) ((O.outer outside.new).events) reactor.old.core reactor.new.core more) }
+    ensures refused { Refuses result ((O.outer outside.old).events) ((O.outer outside.new).events) reactor.old.core reactor.new.core }
+    ensures cause { VisitCounted result ((O.outer outside.old).poller_faults) ((O.outer outside.new).poller_faults) }
+    ensures counted { OnOk result (CountsOn slots.old.items slots.new.items (O.outer outside.old) (O.outer outside.new)) }
+    ensures timers { reactor.new.core.made ≡ reactor.old.core.made }
+    ensures keeps { Keeps part.All (O.outer outside.old) (O.outer outside.new) }
     ensures reports { reactor.new.events ≡ reactor.old.events }
 {
     for wire in woken {
@@ -163,16 +171,18 @@ fn go_round<O: Outside>(
     requires owned { Owned slots.old.items (tags reactor.old.core.sources) }
     requires stands { AllOpen slots.old.items }
     requires few { length slots.old.items < 2 ^ 32 }
-    ensures went { OnOk result (GoesRound (O.events outside.old) (O.events outside.new) reactor.old.core reactor.new.core slots.old.items slots.new.items) }
+    ensures went { OnOk result (GoesRound ((O.outer outside.old).events) ((O.outer outside.new).events) reactor.old.core reactor.new.core slots.old.items slots.new.items) }
     ensures rests { OnOk result (Rests reactor.new.core) }
     ensures stands { OnOk result (AllOpen slots.new.items) }
     ensures owned { Owned slots.new.items (tags reactor.new.core.sources) }
     ensures len { length slots.new.items ≡ length slots.old.items }
-    ensures told { OnOk result ((more : List Event) × Told (O.events outside.old) (O.events outside.new) reactor.old.core reactor.new.core more) }
-    ensures refused { Refuses result (O.events outside.old) (O.events outside.new) reactor.old.core reactor.new.core }
-    ensures exhausted { OnExhausted result (reactor.new ≡ reactor.old × O.events outside.new ≡ O.events outside.old × slots.new.items ≡ slots.old.items) }
-    ensures cause { OpenCounted result (O.poller_faults outside.old) (O.poller_faults outside.new) }
-    ensures origin { O.origin outside.new ≡ O.origin outside.old }
+    ensures told { OnOk result ((more : List Event) × Told ((O.outer outside.old).events) ((O.outer outside.new).events) reactor.old.core reactor.new.core more) }
+    ensures refused { Refuses result ((O.outer outside.old).events) ((O.outer outside.new).events) reactor.old.core reactor.new.core }
+    ensures exhausted { OnExhausted result (reactor.new ≡ reactor.old × (O.outer outside.new).events ≡ (O.outer outside.old).events × slots.new.items ≡ slots.old.items) }
+    ensures cause { OpenCounted result ((O.outer outside.old).poller_faults) ((O.outer outside.new).poller_faults) }
+    ensures counted { OnOk result (CountsOn slots.old.items slots.new.items (O.outer outside.old) (O.outer outside.new)) }
+    ensures timers { reactor.new.core.made ≡ reactor.old.core.made }
+    ensures keeps { Keeps part.All (O.outer outside.old) (O.outer outside.new) }
     ensures reports { reactor.new.events ≡ reactor.old.events }
 {
     let woken = round(alloc, reactor, outside)?;
@@ -191,14 +201,16 @@ pub(crate) fn go_rounds<O: Outside>(
     requires owned { Owned slots.old.items (tags reactor.old.core.sources) }
     requires stands { AllOpen slots.old.items }
     requires few { length slots.old.items < 2 ^ 32 }
-    ensures went { OnOk result (GoesRounds rounds (O.events outside.old) (O.events outside.new) reactor.old.core reactor.new.core slots.old.items slots.new.items) }
+    ensures went { OnOk result (GoesRounds rounds ((O.outer outside.old).events) ((O.outer outside.new).events) reactor.old.core reactor.new.core slots.old.items slots.new.items) }
     ensures rests { OnOk result (Rests reactor.new.core) }
     ensures owned { Owned slots.new.items (tags reactor.new.core.sources) }
     ensures len { length slots.new.items ≡ length slots.old.items }
-    ensures refused { Refuses result (O.events outside.old) (O.events outside.new) reactor.old.core reactor.new.core }
-    ensures stuck { Stuck result rounds (O.events outside.old) (O.events outside.new) reactor.old.core reactor.new.core slots.old.items slots.new.items }
-    ensures cause { OpenCounted result (O.poller_faults outside.old) (O.poller_faults outside.new) }
-    ensures origin { O.origin outside.new ≡ O.origin outside.old }
+    ensures refused { Refuses result ((O.outer outside.old).events) ((O.outer outside.new).events) reactor.old.core reactor.new.core }
+    ensures stuck { Stuck result rounds ((O.outer outside.old).events) ((O.outer outside.new).events) reactor.old.core reactor.new.core slots.old.items slots.new.items }
+    ensures cause { OpenCounted result ((O.outer outside.old).poller_faults) ((O.outer outside.new).poller_faults) }
+    ensures counted { OnOk result (CountsOn slots.old.items slots.new.items (O.outer outside.old) (O.outer outside.new)) }
+    ensures timers { reactor.new.core.made ≡ reactor.old.core.made }
+    ensures keeps { Keeps part.All (O.outer outside.old) (O.outer outside.new) }
     ensures reports { reactor.new.events ≡ reactor.old.events }
 {
     let mut done = 0;

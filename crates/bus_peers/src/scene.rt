@@ -2,15 +2,17 @@
 //!
 //! Each call first takes the memory for its event. So a call that answers want of memory has used no answer and told nothing.
 
-ghost use Rattle.std.specs.Prelude.{◌≡◌, ◌++◌, ◌∷◌, [], ◌<◌, ◌≤◌, ◌+◌, List, Option, Some, None, true, length, map, replicate, take, vec_len, vec_capacity, slice_set, IfOk, OnOk};
+ghost use Rattle.std.specs.Prelude.{◌≡◌, ◌++◌, ◌∷◌, [], ◌<◌, ◌≤◌, ◌+◌, List, Option, Some, None, true, false, length, map, replicate, take, vec_len, vec_capacity, slice_set, IfOk, OnOk};
 ghost use Rattle.std.specs.Option.{option_copied, option_to_list};
 ghost use Rattle.std.specs.List.{filter_map};
-ghost use Rattle.react_core.specs.Told.{send_told, recv_told, wait_told, IsSent, IsReceived, IsWaited};
+ghost use Rattle.react_core.specs.Outer.{Keeps};
+ghost use Rattle.react_core.specs.Outer as part;
+ghost use Rattle.react_core.specs.Told.{told as with_told, send_told, recv_told, wait_told, IsSent, IsReceived, IsWaited, Counted, OnLack};
 ghost use Rattle.react_core.specs.declared.outside.Event.{Event};
 ghost use Rattle.react_core.specs.declared.outside.Event.TheVariants as event;
 ghost use Rattle.react_core.specs.declared.outside.Question.TheVariants as question;
-ghost use Rattle.bus_peers.specs.Queues.{Queues, queue_at, next_answer};
-ghost use Rattle.bus_peers.specs.Plays.{Follows, HasNoPollerFault, faults_of_poller, last_reading, reading_given, outcome_given, send_given, recv_given, is_wait_given, asks_for_wire};
+ghost use Rattle.bus_peers.specs.Queues.{queue_at, next_answer};
+ghost use Rattle.bus_peers.specs.Plays.{Follows, last_reading, reading_given, outcome_given, send_given, recv_given, is_wait_given, wait_given, asks_for_wire, outer_of, OnAnswer, AnswersWait};
 ghost use Rattle.bus_peers.specs.Cursors.{left, left_reads, script_of, IsPlaying, sent_of, passes_in, dialled, key_in, report_in};
 
 use crate::queues::{
@@ -464,7 +466,7 @@ fn tell_wait(player: &mut Player, timeout: Option<u64>, answer: WaitAnswer)
 }
 
 /// Waits for reports, which it puts at the front of a slice.
-#[tactic(auto, using(crate::proofs::WaitLemmas::reports_given))]
+#[tactic(auto, using(crate::proofs::WaitLemmas::reports_given, crate::proofs::WaitLemmas::reports_exact))]
 fn wait(
     player: &mut Player,
     alloc: Global,
@@ -476,6 +478,7 @@ fn wait(
     ensures playing { IsPlaying player.new }
     ensures script { script_of player.new.answers ≡ script_of player.old.answers }
     ensures told { player.new.told.items ≡ player.old.told.items ++ wait_told timeout reports.new result }
+    ensures exact { OnAnswer result (player.new.told.items ≡ player.old.told.items ++ event.Wait timeout (wait_given (length reports.old) (length player.old.keys.items) player.old.told.items (next_answer (left player.old.answers.waits))) ∷ []) }
     ensures amount { IfOk result (IsWaited (length reports.old)) }
     ensures room { length reports.new ≡ length reports.old }
 {
@@ -507,30 +510,14 @@ fn wait(
     }
 }
 
-/// A record that follows a script has no fault of the poller, where no answer of the script to its calls is one.
-pub fn faultless()
-    ensures { (script : Queues) (told : List Event) → HasNoPollerFault script → Follows script told → faults_of_poller told ≡ 0 }
-{}
-
 impl Tells for Scene {
     type Origin = QueuedAnswers;
 
-    ghost use Rattle.std.specs.Prelude.{Some, []};
-    ghost use Rattle.bus_peers.specs.Plays.{last_reading, faults_of_poller, faults_of_wire, faults_of_dials};
+    ghost use Rattle.bus_peers.specs.Plays.{outer_of, scene_counts_fit};
 
-    ghost origin = { λ s. s.script };
+    ghost outer = { outer_of };
 
-    ghost events = { λ s. Some s.told };
-
-    ghost moment = { λ s. last_reading s.told };
-
-    ghost poller_faults = { λ s. faults_of_poller s.told };
-
-    ghost wire_faults = { λ s. faults_of_wire s.told };
-
-    ghost dial_faults = { λ s. faults_of_dials s.told };
-
-    ghost doors = { λ s. record { faults = 0; arrivals = [] } };
+    ghost counts_fit = { scene_counts_fit };
 }
 
 impl Clock for Scene {
@@ -581,7 +568,17 @@ impl Notifier for Scene {
 }
 
 impl Waiter for Scene {
-    fn wait(&mut self, timeout: Option<u64>, reports: &mut [Report]) -> Result<Waited, Fault> {
+    /// Gives what the script's next answer to a wait has: of the reports that name a source, the first ones up to the room
+    /// that was lent.
+    fn wait(&mut self, timeout: Option<u64>, reports: &mut [Report]) -> Result<Waited, Fault>
+        ensures exact { AnswersWait (length reports.old) timeout self.old self.new result }
+        ensures told { (outer_of self.new).events ≡ with_told (outer_of self.old).events (wait_told timeout reports.new result) }
+        ensures amount { IfOk result (IsWaited (length reports.old)) }
+        ensures room { length reports.new ≡ length reports.old }
+        ensures cause { Counted result (outer_of self.old).poller_faults (outer_of self.new).poller_faults }
+        ensures memory { OnLack result ((outer_of self.old).ample ≡ false) }
+        ensures keeps { Keeps part.Poller (outer_of self.old) (outer_of self.new) }
+    {
         reserve(&mut self.player.told)?;
         wait(&mut self.player, self.alloc, timeout, reports)
     }

@@ -1,13 +1,16 @@
 //! The visits of a session: it dials, is registered, and asks its wire until it has ended or has to wait.
 
 ghost use Rattle.std.specs.Prelude.{◌≡◌, ◌<◌, ℕ, List, [], ◌∷◌, ◌++◌, map, Option, Some, None, true, false, IfOk, OnOk, OnErr, if◌then◌else◌};
+ghost use Rattle.react_core.specs.Outer.{Keeps};
+ghost use Rattle.react_core.specs.Outer as part;
 ghost use Rattle.react_core.specs.Told.{told};
 ghost use Rattle.react_core.specs.declared.outside.Event.{Event};
 ghost use Rattle.bus_script.specs.declared.ended.Ending.TheVariants as ending;
+ghost use Rattle.bus_peers.specs.Faults.{DialCounted, TurnCounted, SlotCounted};
 ghost use Rattle.bus_peers.specs.Registry.{held_at};
 ghost use Rattle.bus_peers.specs.Sessions.{is_built};
 ghost use Rattle.bus_peers.specs.Shown.{Rests, shown, tags, without_tag, has_wire};
-ghost use Rattle.bus_peers.specs.Visited.{DialTold, ending_of, VisitCounted, Keeps, Holds, Readied, Turns, may_ask, OnAgain, last_turn, Stays, Registers, FirstVisits, FirstTags};
+ghost use Rattle.bus_peers.specs.Visited.{DialTold, ending_of, VisitCounted, KeepsCall, Holds, Readied, Turns, may_ask, OnAgain, last_turn, Stays, Registers, FirstVisits, FirstTags};
 ghost use Rattle.bus_peers.specs.declared.visiting.Turn.TheVariants as turn;
 ghost use Rattle.bus_peers.specs.Registry.{Held};
 
@@ -19,7 +22,7 @@ use bus_opening::{Handshake, Step, Verdict};
 use bus_script::{Ended, Ending};
 use futures::task::Poll;
 use react_core::outside::{Bytes, Dialer, Fault, Opened, OutOfMemory, Registrar, Wakes, Wire};
-use react_core::reactor::{Dir, Reactor, insertion_changes_one_key, removal_undoes_insertion};
+use react_core::reactor::{Dir, Reactor};
 use std::alloc::{AllocError, Global};
 
 /// How a turn of a visit ends.
@@ -56,9 +59,9 @@ fn dial<D: Dialer>(
     session: &Session,
 ) -> Result<Option<Opened>, OutOfMemory>
     requires built { is_built session.now ≡ true }
-    ensures told { DialTold session.now wire result (D.events dialer.old) (D.events dialer.new) }
-    ensures origin { D.origin dialer.new ≡ D.origin dialer.old }
-    ensures poller { D.poller_faults dialer.new ≡ D.poller_faults dialer.old }
+    ensures told { DialTold session.now wire result ((D.outer dialer.old).events) ((D.outer dialer.new).events) }
+    ensures dialled { DialCounted result ((D.outer dialer.old).dial_faults wire) ((D.outer dialer.new).dial_faults wire) }
+    ensures keeps { Keeps (part.Dial wire) (D.outer dialer.old) (D.outer dialer.new) }
 {
     match &session.party {
         Party::Client { address, .. } => match plain_path(address.as_str()) {
@@ -142,13 +145,12 @@ fn ready<R: Registrar, W: Wakes>(
 ) -> Result<bool, OpenError>
     requires holds { Holds reactor.old.core key wire }
     requires rests { Rests reactor.old.core }
-    ensures readied { IfOk result (λ again. (h : Held) × Readied wire key dir (R.events registrar.old) (R.events registrar.new) reactor.old.core reactor.new.core again h) }
-    ensures refused { OnErr result (Keeps (tags reactor.old.core.sources) (R.events registrar.old) (R.events registrar.new) reactor.old.core reactor.new.core) }
-    ensures cause { VisitCounted result (R.poller_faults registrar.old) (R.poller_faults registrar.new) }
-    ensures origin { R.origin registrar.new ≡ R.origin registrar.old }
+    ensures readied { IfOk result (λ again. (h : Held) × Readied wire key dir ((R.outer registrar.old).events) ((R.outer registrar.new).events) reactor.old.core reactor.new.core again h) }
+    ensures refused { OnErr result (KeepsCall (tags reactor.old.core.sources) ((R.outer registrar.old).events) ((R.outer registrar.new).events) reactor.old.core reactor.new.core) }
+    ensures cause { VisitCounted result ((R.outer registrar.old).poller_faults) ((R.outer registrar.new).poller_faults) }
+    ensures keeps { Keeps part.Poller (R.outer registrar.old) (R.outer registrar.new) }
     ensures reports { reactor.new.events ≡ reactor.old.events }
 {
-    reactor.counters_fit();
     match reactor.poll_ready(registrar, wakes, key, dir, u64::from(wire))? {
         Poll::Ready(()) => Ok(true),
         Poll::Pending => Ok(false),
@@ -175,11 +177,12 @@ fn take_turn<O: Wire + Registrar, W: Wakes>(
     requires holds { Holds reactor.old.core key wire }
     requires rests { Rests reactor.old.core }
     requires open { client.old.ended ≡ false }
-    ensures turned { IfOk result (λ turn. Turns wire key (O.events outside.old) (O.events outside.new) reactor.old.core reactor.new.core client.old client.new turn) }
+    ensures turned { IfOk result (λ turn. Turns wire key ((O.outer outside.old).events) ((O.outer outside.new).events) reactor.old.core reactor.new.core client.old client.new turn) }
     ensures onward { IfOk result (OnAgain (may_ask (held_at (map shown reactor.new.core.sources) key)) (may_ask (held_at (map shown reactor.old.core.sources) key))) }
-    ensures refused { OnErr result (Keeps (tags reactor.old.core.sources) (O.events outside.old) (O.events outside.new) reactor.old.core reactor.new.core) }
-    ensures cause { VisitCounted result (O.poller_faults outside.old) (O.poller_faults outside.new) }
-    ensures origin { O.origin outside.new ≡ O.origin outside.old }
+    ensures refused { OnErr result (KeepsCall (tags reactor.old.core.sources) ((O.outer outside.old).events) ((O.outer outside.new).events) reactor.old.core reactor.new.core) }
+    ensures cause { VisitCounted result ((O.outer outside.old).poller_faults) ((O.outer outside.new).poller_faults) }
+    ensures counted { IfOk result (λ turn. TurnCounted wire turn (O.outer outside.old) (O.outer outside.new)) }
+    ensures keeps { Keeps (part.Visit wire) (O.outer outside.old) (O.outer outside.new) }
     ensures reports { reactor.new.events ≡ reactor.old.events }
 {
     match client.poll(alloc, outside, wire) {
@@ -209,10 +212,11 @@ fn resume<O: Wire + Registrar, W: Wakes>(
     requires holds { Holds reactor.old.core key wire }
     requires rests { Rests reactor.old.core }
     requires open { client.old.ended ≡ false }
-    ensures resumed { IfOk result (λ r. Turns wire key (O.events outside.old) (O.events outside.new) reactor.old.core reactor.new.core client.old client.new (last_turn r)) }
-    ensures refused { OnErr result (Keeps (tags reactor.old.core.sources) (O.events outside.old) (O.events outside.new) reactor.old.core reactor.new.core) }
-    ensures cause { VisitCounted result (O.poller_faults outside.old) (O.poller_faults outside.new) }
-    ensures origin { O.origin outside.new ≡ O.origin outside.old }
+    ensures resumed { IfOk result (λ r. Turns wire key ((O.outer outside.old).events) ((O.outer outside.new).events) reactor.old.core reactor.new.core client.old client.new (last_turn r)) }
+    ensures refused { OnErr result (KeepsCall (tags reactor.old.core.sources) ((O.outer outside.old).events) ((O.outer outside.new).events) reactor.old.core reactor.new.core) }
+    ensures cause { VisitCounted result ((O.outer outside.old).poller_faults) ((O.outer outside.new).poller_faults) }
+    ensures counted { IfOk result (λ r. TurnCounted wire (last_turn r) (O.outer outside.old) (O.outer outside.new)) }
+    ensures keeps { Keeps (part.Visit wire) (O.outer outside.old) (O.outer outside.new) }
     ensures reports { reactor.new.events ≡ reactor.old.events }
 {
     loop {
@@ -236,10 +240,11 @@ pub(crate) fn visit<O: Wire + Registrar, W: Wakes>(
     requires holds { Holds reactor.old.core sleeper.key wire }
     requires rests { Rests reactor.old.core }
     requires open { sleeper.client.ended ≡ false }
-    ensures visited { IfOk result (λ slot. Stays wire sleeper.key (O.events outside.old) (O.events outside.new) reactor.old.core reactor.new.core sleeper.client slot) }
-    ensures refused { OnErr result (Keeps (without_tag (tags reactor.old.core.sources) sleeper.key) (O.events outside.old) (O.events outside.new) reactor.old.core reactor.new.core) }
-    ensures cause { VisitCounted result (O.poller_faults outside.old) (O.poller_faults outside.new) }
-    ensures origin { O.origin outside.new ≡ O.origin outside.old }
+    ensures visited { IfOk result (λ slot. Stays wire sleeper.key ((O.outer outside.old).events) ((O.outer outside.new).events) reactor.old.core reactor.new.core sleeper.client slot) }
+    ensures refused { OnErr result (KeepsCall (without_tag (tags reactor.old.core.sources) sleeper.key) ((O.outer outside.old).events) ((O.outer outside.new).events) reactor.old.core reactor.new.core) }
+    ensures cause { VisitCounted result ((O.outer outside.old).poller_faults) ((O.outer outside.new).poller_faults) }
+    ensures counted { IfOk result (λ slot. SlotCounted wire slot (O.outer outside.old) (O.outer outside.new)) }
+    ensures keeps { Keeps (part.Visit wire) (O.outer outside.old) (O.outer outside.new) }
     ensures reports { reactor.new.events ≡ reactor.old.events }
 {
     let Sleeper { key, mut client } = sleeper;
@@ -269,15 +274,14 @@ fn visit_opened<O: Wire + Registrar, W: Wakes>(
     requires built { is_built session.now ≡ true }
     requires rests { Rests reactor.old.core }
     requires new { has_wire wire (tags reactor.old.core.sources) ≡ false }
-    ensures visited { IfOk result (λ slot. Registers session.now wire passes (O.events outside.old) (O.events outside.new) reactor.old.core reactor.new.core slot) }
+    ensures visited { IfOk result (λ slot. Registers session.now wire passes ((O.outer outside.old).events) ((O.outer outside.new).events) reactor.old.core reactor.new.core slot) }
     ensures tags { IfOk result (FirstTags wire (tags reactor.old.core.sources) (tags reactor.new.core.sources)) }
-    ensures refused { OnErr result (Keeps (tags reactor.old.core.sources) (O.events outside.old) (O.events outside.new) reactor.old.core reactor.new.core) }
-    ensures cause { VisitCounted result (O.poller_faults outside.old) (O.poller_faults outside.new) }
-    ensures origin { O.origin outside.new ≡ O.origin outside.old }
+    ensures refused { OnErr result (KeepsCall (tags reactor.old.core.sources) ((O.outer outside.old).events) ((O.outer outside.new).events) reactor.old.core reactor.new.core) }
+    ensures cause { VisitCounted result ((O.outer outside.old).poller_faults) ((O.outer outside.new).poller_faults) }
+    ensures counted { IfOk result (λ slot. SlotCounted wire slot (O.outer outside.old) (O.outer outside.new)) }
+    ensures keeps { Keeps (part.Visit wire) (O.outer outside.old) (O.outer outside.new) }
     ensures reports { reactor.new.events ≡ reactor.old.events }
 {
-    insertion_changes_one_key();
-    removal_undoes_insertion();
     let client = Conversation::begin(alloc, &session.party, passes)?;
     let key = reactor.insert_io(alloc, outside, wire)?;
     visit(
@@ -302,11 +306,12 @@ pub(crate) fn first_visit<O: Wire + Dialer + Registrar, W: Wakes>(
     requires built { is_built session.now ≡ true }
     requires rests { Rests reactor.old.core }
     requires new { has_wire wire (tags reactor.old.core.sources) ≡ false }
-    ensures visited { IfOk result (λ slot. FirstVisits session.now wire (O.events outside.old) (O.events outside.new) reactor.old.core reactor.new.core slot) }
+    ensures visited { IfOk result (λ slot. FirstVisits session.now wire ((O.outer outside.old).events) ((O.outer outside.new).events) reactor.old.core reactor.new.core slot) }
     ensures tags { IfOk result (FirstTags wire (tags reactor.old.core.sources) (tags reactor.new.core.sources)) }
-    ensures refused { OnErr result (Keeps (tags reactor.old.core.sources) (O.events outside.old) (O.events outside.new) reactor.old.core reactor.new.core) }
-    ensures cause { VisitCounted result (O.poller_faults outside.old) (O.poller_faults outside.new) }
-    ensures origin { O.origin outside.new ≡ O.origin outside.old }
+    ensures refused { OnErr result (KeepsCall (tags reactor.old.core.sources) ((O.outer outside.old).events) ((O.outer outside.new).events) reactor.old.core reactor.new.core) }
+    ensures cause { VisitCounted result ((O.outer outside.old).poller_faults) ((O.outer outside.new).poller_faults) }
+    ensures counted { IfOk result (λ slot. SlotCounted wire slot (O.outer outside.old) (O.outer outside.new)) }
+    ensures keeps { Keeps (part.Visit wire) (O.outer outside.old) (O.outer outside.new) }
     ensures reports { reactor.new.events ≡ reactor.old.events }
 {
     match dial(outside, wire, session)? {

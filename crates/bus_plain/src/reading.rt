@@ -12,10 +12,10 @@ use std::str;
 fn text_of_line(line: &[u8]) -> Option<&str>
     ensures value { option_map (λ t. t.now) result ≡ text_of_line line.now }
 {
-    if line.is_empty() {
+    if line.len() < 2 {
         return None;
     }
-    let end = line.len().saturating_sub(2);
+    let end = line.len() - 2;
     if line[end] != 13 {
         return None;
     }

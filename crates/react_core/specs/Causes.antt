@@ -6,7 +6,7 @@ use Rattle.react_core.specs.declared.outside.Fault.{Fault}
 use Rattle.react_core.specs.declared.outside.Fault.TheVariants as fault
 use Rattle.react_core.specs.declared.reactor.ReactError.{ReactError}
 use Rattle.react_core.specs.declared.reactor.ReactError.TheVariants.{Poller, OutOfMemory, Exhausted}
-use Rattle.react_core.specs.declared.source.Source.{Source}
+use Rattle.react_core.specs.Places.{Source}
 use Rattle.react_core.specs.Core.{Core}
 use Rattle.react_core.specs.Sources.{source_of}
 use Rattle.react_core.specs.Told.{Rose, told}
@@ -21,6 +21,13 @@ ReactCounted (Ok v) before now = now ≡ before
 ReactCounted (Err Poller) before now = Rose before now
 ReactCounted (Err OutOfMemory) before now = now ≡ before
 ReactCounted (Err (Exhausted counter value)) before now = ⊥
+
+-- what holds where the answer is want of memory
+abbrev pub OnReactLack : {T : Type 0} → Result T ReactError → Type 0 → Type 0
+OnReactLack (Ok v) P = Unit {0}
+OnReactLack (Err Poller) P = Unit {0}
+OnReactLack (Err OutOfMemory) P = P
+OnReactLack (Err (Exhausted counter value)) P = Unit {0}
 
 -- what an insertion of this wire told: one registration under the new key; where the poller failed, one under some key
 -- that had no source

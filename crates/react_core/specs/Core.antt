@@ -1,7 +1,7 @@
 -- The reactor's core as plain data.
-use Rattle.std.specs.Prelude.{◌≡◌, ℕ, List, [], Option, None, IsSome}
-use Rattle.react_core.specs.declared.source.Source.{Source}
-use Rattle.react_core.specs.Sources.{source_of, with_new, without, new_source}
+use Rattle.std.specs.Prelude.{◌≡◌, ◌<◌, ◌^◌, ℕ, List, [], Option, None, IsSome}
+use Rattle.react_core.specs.Places.{Source}
+use Rattle.react_core.specs.Sources.{source_of, with_new, without, new_source, RisesFrom}
 
 pub record Core : Type 0 where
   -- the last round that was begun
@@ -19,6 +19,13 @@ pub record Core : Type 0 where
 pub record ReactorState : Type 0 where
   pub core : Core
   pub events : ℕ
+
+-- what holds of each reactor's core: no number passes the end of its type, and the keys of the sources rise
+pub record Fits (core : Core) : Type 0 where
+  pub ticker : core.ticker < 2 ^ 64
+  pub made : core.made < 2 ^ 64
+  pub begun : core.begun < 2 ^ 64
+  pub rises : RisesFrom 0 core.sources
 
 -- an idle core with these counters
 abbrev pub new_core : ℕ → ℕ → Core

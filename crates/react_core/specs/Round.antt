@@ -1,5 +1,5 @@
--- A whole round: what the outside answered in it, what was told, and what is left.
-use Rattle.std.specs.Prelude.{◌≡◌, ◌≢◌, ◌+◌, ◌^◌, ◌-◌, ◌≤◌, ℕ, Bool, true, false, nat_lt, is_some, List, [], ◌∷◌, ◌++◌, map, Option, Some, None, Result, Ok, Err}
+-- A round over an outside: what was answered in it, what was told, and its steps.
+use Rattle.std.specs.Prelude.{◌≡◌, ◌≢◌, ◌+◌, ◌^◌, ◌-◌, ◌≤◌, ℕ, Bool, true, false, nat_lt, List, [], ◌∷◌, ◌++◌, map, Option, Some, None, length, Result, Ok, Err}
 use Rattle.react_core.specs.declared.outside.Event.{Event}
 use Rattle.react_core.specs.declared.outside.Event.TheVariants as event
 use Rattle.react_core.specs.declared.outside.Report.{Report}
@@ -8,10 +8,9 @@ use Rattle.react_core.specs.declared.outside.WaitAnswer.TheVariants as wait_answ
 use Rattle.react_core.specs.declared.reactor.Counter.TheVariants as counter
 use Rattle.react_core.specs.declared.reactor.ReactError.{ReactError}
 use Rattle.react_core.specs.declared.reactor.ReactError.TheVariants.{Poller, OutOfMemory, Exhausted}
-use Rattle.react_core.specs.declared.source.Source.{Source}
-use Rattle.react_core.specs.Core.{Core}
-use Rattle.react_core.specs.Reports.{after_reports, taken_by_all, armings_by_all, armed_told, Try, tries_told, worst}
-use Rattle.react_core.specs.Step.{WokeAll}
+use Rattle.react_core.specs.Core.{Core, ReactorState}
+use Rattle.react_core.specs.Reports.{armings_by_all, Try, tries_told, worst}
+use Rattle.react_core.specs.Step.{RoundSteps, WokeAll}
 use Rattle.react_core.specs.Told.{Rose, told}
 
 abbrev pub reports_of : WaitAnswer → List Report
@@ -31,45 +30,16 @@ is_quiet timeout (wait_answer.Reported (r ∷ reports)) = false
 is_quiet timeout wait_answer.Interrupted = false
 is_quiet timeout wait_answer.Failed = false
 
--- ---- a round that went well
-
-pub record Round : Type 0 where
-  pub first : ℕ
-  pub answer : WaitAnswer
-  pub second : Option ℕ
-
-abbrev pub reading_told : Option ℕ → List Event
-reading_told None = []
-reading_told (Some moment) = event.Now moment ∷ []
-
-abbrev pub round_told : Option ℕ → Round → List Event
-round_told timeout r = event.Now r.first ∷ event.Wait timeout r.answer ∷ reading_told r.second
-
--- a second reading is made exactly where the timeout has passed and nothing was reported; no wait has failed
-abbrev pub IsRound : Option ℕ → Round → Type 0
-IsRound timeout r = (is_some r.second ≡ is_quiet timeout r.answer) × (r.answer ≢ wait_answer.Failed)
-
--- a whole round: what is told, what is left, what is woken
-pub record Rounds {W : Type 0} (woke : W → ℕ → W → Type 0) (timeout : Option ℕ) (before after : Option (List Event)) (old new : Core) (wakes wakes' : W) (r : Round) : Type 0 where
-  pub form : IsRound timeout r
-  pub gained : after ≡ told before (round_told timeout r ++ map armed_told (armings_by_all (old.ticker + 1) old.sources (reports_of r.answer)))
-  pub core : new ≡ record old { ticker = old.ticker + 1; sources = after_reports (old.ticker + 1) old.sources (reports_of r.answer); hands = None }
-  pub woken : WokeAll woke wakes (taken_by_all (old.ticker + 1) old.sources (reports_of r.answer)) wakes'
-
--- ---- a round that may be refused
-
--- the reading after the wait
-pub data Second : Type 0 where
-  NotRead : Second
-  ReadAt : ℕ → Second
-  -- it found no memory
-  Unreadable : Second
-
 -- the wait and the reading after it
 pub data Pause : Type 0 where
   -- the wait found no memory
   Unwaited : Pause
-  Waited : WaitAnswer → Second → Pause
+  -- no second reading
+  Waited : WaitAnswer → Pause
+  -- a second reading, and its moment
+  Reread : WaitAnswer → ℕ → Pause
+  -- a second reading that found no memory
+  Unreread : WaitAnswer → Pause
 
 -- the outside's answers in a round, up to its reports
 pub data Course : Type 0 where
@@ -78,28 +48,22 @@ pub data Course : Type 0 where
   -- the first reading, and what came then
   Read : ℕ → Pause → Course
 
-abbrev pub was_tried : Second → Bool
-was_tried NotRead = false
-was_tried (ReadAt moment) = true
-was_tried Unreadable = true
-
 -- the clock is read again exactly where the timeout has passed and nothing was reported
 abbrev pub IsPause : Option ℕ → Pause → Type 0
 IsPause timeout Unwaited = Unit {0}
-IsPause timeout (Waited answer second) = was_tried second ≡ is_quiet timeout answer
+IsPause timeout (Waited answer) = is_quiet timeout answer ≡ false
+IsPause timeout (Reread answer moment) = is_quiet timeout answer ≡ true
+IsPause timeout (Unreread answer) = is_quiet timeout answer ≡ true
 
 abbrev pub IsCourse : Option ℕ → Course → Type 0
 IsCourse timeout Unread = Unit {0}
 IsCourse timeout (Read first pause) = IsPause timeout pause
 
-abbrev pub second_told : Second → List Event
-second_told NotRead = []
-second_told (ReadAt moment) = event.Now moment ∷ []
-second_told Unreadable = []
-
 abbrev pub pause_told : Option ℕ → Pause → List Event
 pause_told timeout Unwaited = []
-pause_told timeout (Waited answer second) = event.Wait timeout answer ∷ second_told second
+pause_told timeout (Waited answer) = event.Wait timeout answer ∷ []
+pause_told timeout (Reread answer moment) = event.Wait timeout answer ∷ event.Now moment ∷ []
+pause_told timeout (Unreread answer) = event.Wait timeout answer ∷ []
 
 abbrev pub course_told : Option ℕ → Course → List Event
 course_told timeout Unread = []
@@ -107,7 +71,9 @@ course_told timeout (Read first pause) = event.Now first ∷ pause_told timeout 
 
 abbrev pub pause_reports : Pause → List Report
 pause_reports Unwaited = []
-pause_reports (Waited answer second) = reports_of answer
+pause_reports (Waited answer) = reports_of answer
+pause_reports (Reread answer moment) = reports_of answer
+pause_reports (Unreread answer) = reports_of answer
 
 abbrev pub course_reports : Course → List Report
 course_reports Unread = []
@@ -120,33 +86,30 @@ wait_refusal wait_answer.Failed = Err Poller
 
 abbrev pub pause_answer : Pause → Result (Unit {0}) ReactError
 pause_answer Unwaited = Err OutOfMemory
-pause_answer (Waited answer NotRead) = wait_refusal answer
-pause_answer (Waited answer (ReadAt moment)) = wait_refusal answer
-pause_answer (Waited answer Unreadable) = Err OutOfMemory
+pause_answer (Waited answer) = wait_refusal answer
+pause_answer (Reread answer moment) = wait_refusal answer
+pause_answer (Unreread answer) = Err OutOfMemory
 
 abbrev pub course_answer : Course → Result (Unit {0}) ReactError
 course_answer Unread = Err OutOfMemory
 course_answer (Read first pause) = pause_answer pause
 
 -- the clock's last reading after the round
-abbrev pub SecondClock : ℕ → Second → ℕ → Type 0
-SecondClock first NotRead now = now ≡ first
-SecondClock first (ReadAt moment) now = (first ≤ moment) × (now ≡ moment)
-SecondClock first Unreadable now = now ≡ first
-
 abbrev pub PauseClock : ℕ → Pause → ℕ → Type 0
 PauseClock first Unwaited now = now ≡ first
-PauseClock first (Waited answer second) now = SecondClock first second now
+PauseClock first (Waited answer) now = now ≡ first
+PauseClock first (Reread answer moment) now = (first ≤ moment) × (now ≡ moment)
+PauseClock first (Unreread answer) now = now ≡ first
 
 abbrev pub CourseClock : ℕ → Course → ℕ → Type 0
 CourseClock before Unread now = now ≡ before
 CourseClock before (Read first pause) now = (before ≤ first) × PauseClock first pause now
 
--- the core after the round: as it was where the clock could not be read, else begun and finished with the reports
-abbrev pub after_course : Core → Course → Core
-after_course core Unread = core
-after_course core (Read first pause) =
-    record core { ticker = core.ticker + 1; sources = after_reports (core.ticker + 1) core.sources (pause_reports pause); hands = None }
+-- what a course does to the core, and the tasks that it wakes: nothing where the clock could not be read, else a round
+-- with the reports of its wait
+abbrev pub CourseSteps : Core → Course → List ℕ → Core → Type 0
+CourseSteps old Unread woken new = record { wakes : woken ≡ []; core : new ≡ old }
+CourseSteps old (Read first pause) woken new = RoundSteps old (pause_reports pause) woken new
 
 -- the first refusal of two answers
 abbrev pub then_answer : Result (Unit {0}) ReactError → Result (Unit {0}) ReactError → Result (Unit {0}) ReactError
@@ -155,14 +118,19 @@ then_answer (Err e) second = Err e
 
 -- a round of this course, in which the armings after its reports were tried so: a wait that was refused or failed is
 -- finished with no reports
-pub record Ran {W : Type 0} (woke : W → ℕ → W → Type 0) (timeout : Option ℕ) (before after : Option (List Event)) (moment now : ℕ) (old new : Core) (wakes wakes' : W) (answer : Result (Unit {0}) ReactError) (course : Course) (tries : List Try) : Type 0 where
+pub record Ran {W : Type 0} (woke : W → ℕ → W → Type 0) (timeout : Option ℕ) (before after : Option (List Event)) (moment now : ℕ)
+    (old new : ReactorState) (wakes wakes' : W) (answer : Result (Unit {0}) ReactError) (course : Course) (tries : List Try) : Type 0 where
   pub form : IsCourse timeout course
-  pub each : map (λ t. t.0) tries ≡ armings_by_all (old.ticker + 1) old.sources (course_reports course)
+  -- a wait gives no more reports than the reactor has room for
+  pub within : length (course_reports course) ≤ old.events
+  pub each : map (λ t. t.0) tries ≡ armings_by_all (old.core.ticker + 1) old.core.sources (course_reports course)
   pub answers : answer ≡ then_answer (course_answer course) (worst tries)
   pub gained : after ≡ told before (course_told timeout course ++ tries_told tries)
   pub clock : CourseClock moment course now
-  pub core : new ≡ after_course old course
-  pub woken : WokeAll woke wakes (taken_by_all (old.ticker + 1) old.sources (course_reports course)) wakes'
+  -- the tasks that the round's end wakes
+  pub tasks : List ℕ
+  pub steps : CourseSteps old.core course tasks new.core
+  pub woken : WokeAll woke wakes tasks wakes'
 
 -- ---- the number of the next round
 
@@ -193,16 +161,6 @@ RoundCounted (Ok v) before now = now ≡ before
 RoundCounted (Err Poller) before now = Rose before now
 RoundCounted (Err OutOfMemory) before now = now ≡ before
 RoundCounted (Err (Exhausted c value)) before now = now ≡ before
-
--- a begun round with this number, up to its end
-pub record Passed {W : Type 0} (woke : W → ℕ → W → Type 0) (timeout : Option ℕ) (before after : Option (List Event)) (first now ticker : ℕ) (old new : List (ℕ × Source)) (wakes wakes' : W) (answer : Result (Unit {0}) ReactError) (p : Pause) (tries : List Try) : Type 0 where
-  pub form : IsPause timeout p
-  pub each : map (λ t. t.0) tries ≡ armings_by_all ticker old (pause_reports p)
-  pub answers : answer ≡ then_answer (pause_answer p) (worst tries)
-  pub gained : after ≡ told before (pause_told timeout p ++ tries_told tries)
-  pub clock : PauseClock first p now
-  pub sources : new ≡ after_reports ticker old (pause_reports p)
-  pub woken : WokeAll woke wakes (taken_by_all ticker old (pause_reports p)) wakes'
 
 -- the answer alone, without its value
 abbrev pub answer_of : {T : Type 0} → Result T ReactError → Result (Unit {0}) ReactError

@@ -3,12 +3,13 @@
 //! Where an object tells, each call appends one event with its question and its answer to the object's record. Each
 //! fault is counted, so that whoever is refused can see the cause.
 
-ghost use Rattle.std.specs.Prelude.{◌≡◌, ◌≤◌, ℕ, List, Option, length, IfOk, OnErr};
+ghost use Rattle.std.specs.Prelude.{◌≡◌, ◌≤◌, ℕ, false, List, Option, length, IfOk, OnErr};
 ghost use Rattle.react_core.specs.declared.outside.Event.{Event};
 ghost use Rattle.react_core.specs.declared.outside.Question.TheVariants as question;
-ghost use Rattle.react_core.specs.Doors.{Doors};
+ghost use Rattle.react_core.specs.Outer.{Outer, Keeps, CountsFit};
+ghost use Rattle.react_core.specs.Outer as part;
 ghost use Rattle.react_core.specs.Told.{told, now_told, add_told, modify_told, delete_told, notify_told, wait_told, recv_told, send_told, close_told, dial_told};
-ghost use Rattle.react_core.specs.Told.{Counted, SameBut, IsReceived, IsSent, IsWaited};
+ghost use Rattle.react_core.specs.Told.{Counted, OnLack, IsReceived, IsSent, IsWaited};
 
 use std::alloc::AllocError;
 use std::marker::Model;
@@ -307,41 +308,23 @@ pub trait Tells {
     /// Where the answers come from, as the script of a scene.
     type Origin;
 
-    /// The origin of this object. No call changes it.
-    ghost origin: { Self → Self.Origin };
+    /// What contracts see of this object. No call changes its origin, nor whether it may lack memory.
+    ghost outer: { Self → Outer Self.Origin };
 
-    /// The record, where the object tells one.
-    ghost events: { Self → Option (List Event) };
-
-    /// The clock's last reading.
-    ghost moment: { Self → ℕ };
-
-    /// The faults of the poller.
-    ghost poller_faults: { Self → ℕ };
-
-    /// The faults of each wire.
-    ghost wire_faults: { Self → ℕ → ℕ };
-
-    /// The faults of the dialling for each wire.
-    ghost dial_faults: { Self → ℕ → ℕ };
-
-    /// The faults of the listening sockets, and what was found at them.
-    ghost doors: { Self → Doors };
+    /// No count passes `u64::MAX`.
+    ghost counts_fit: { (x : Self) → CountsFit (outer x) };
 }
 
 /// A clock that never falls. Its readings are nanoseconds from a start of its own.
 pub trait Clock: Tells {
     /// Reads the clock.
     fn now(&mut self) -> Result<u64, OutOfMemory>
-        ensures told { Self.events self.new ≡ told (Self.events self.old) (now_told result) }
-        ensures forward { IfOk result (λ t. Self.moment self.old ≤ t) }
-        ensures reading { IfOk result (λ t. Self.moment self.new ≡ t) }
-        ensures unread { OnErr result (Self.moment self.new ≡ Self.moment self.old) }
-        ensures origin { Self.origin self.new ≡ Self.origin self.old }
-        ensures poller { Self.poller_faults self.new ≡ Self.poller_faults self.old }
-        ensures wires { Self.wire_faults self.new ≡ Self.wire_faults self.old }
-        ensures dials { Self.dial_faults self.new ≡ Self.dial_faults self.old }
-        ensures doors { Self.doors self.new ≡ Self.doors self.old };
+        ensures told { (Self.outer self.new).events ≡ told (Self.outer self.old).events (now_told result) }
+        ensures forward { IfOk result (λ t. (Self.outer self.old).moment ≤ t) }
+        ensures reading { IfOk result (λ t. (Self.outer self.new).moment ≡ t) }
+        ensures unread { OnErr result ((Self.outer self.new).moment ≡ (Self.outer self.old).moment) }
+        ensures memory { OnErr result ((Self.outer self.old).ample ≡ false) }
+        ensures keeps { Keeps part.Clock (Self.outer self.old) (Self.outer self.new) };
 }
 
 /// The part of a poller that knows sources. An interest is one-shot: a report of its key and direction ends it until the
@@ -349,46 +332,34 @@ pub trait Clock: Tells {
 pub trait Registrar: Tells {
     /// Registers a wire under a key, with no interest.
     fn add(&mut self, wire: u32, key: usize) -> Result<(), Fault>
-        ensures told { Self.events self.new ≡ told (Self.events self.old) (add_told wire key result) }
-        ensures cause { Counted result (Self.poller_faults self.old) (Self.poller_faults self.new) }
-        ensures origin { Self.origin self.new ≡ Self.origin self.old }
-        ensures moment { Self.moment self.new ≡ Self.moment self.old }
-        ensures wires { Self.wire_faults self.new ≡ Self.wire_faults self.old }
-        ensures dials { Self.dial_faults self.new ≡ Self.dial_faults self.old }
-        ensures doors { Self.doors self.new ≡ Self.doors self.old };
+        ensures told { (Self.outer self.new).events ≡ told (Self.outer self.old).events (add_told wire key result) }
+        ensures cause { Counted result (Self.outer self.old).poller_faults (Self.outer self.new).poller_faults }
+        ensures memory { OnLack result ((Self.outer self.old).ample ≡ false) }
+        ensures keeps { Keeps part.Poller (Self.outer self.old) (Self.outer self.new) };
 
     /// Sets the directions in which a source is of interest.
     fn modify(&mut self, wire: u32, key: usize, read: bool, write: bool) -> Result<(), Fault>
-        ensures told { Self.events self.new ≡ told (Self.events self.old) (modify_told wire key read write result) }
-        ensures cause { Counted result (Self.poller_faults self.old) (Self.poller_faults self.new) }
-        ensures origin { Self.origin self.new ≡ Self.origin self.old }
-        ensures moment { Self.moment self.new ≡ Self.moment self.old }
-        ensures wires { Self.wire_faults self.new ≡ Self.wire_faults self.old }
-        ensures dials { Self.dial_faults self.new ≡ Self.dial_faults self.old }
-        ensures doors { Self.doors self.new ≡ Self.doors self.old };
+        ensures told { (Self.outer self.new).events ≡ told (Self.outer self.old).events (modify_told wire key read write result) }
+        ensures cause { Counted result (Self.outer self.old).poller_faults (Self.outer self.new).poller_faults }
+        ensures memory { OnLack result ((Self.outer self.old).ample ≡ false) }
+        ensures keeps { Keeps part.Poller (Self.outer self.old) (Self.outer self.new) };
 
     /// Takes a source out.
     fn delete(&mut self, wire: u32, key: usize) -> Result<(), Fault>
-        ensures told { Self.events self.new ≡ told (Self.events self.old) (delete_told wire key result) }
-        ensures cause { Counted result (Self.poller_faults self.old) (Self.poller_faults self.new) }
-        ensures origin { Self.origin self.new ≡ Self.origin self.old }
-        ensures moment { Self.moment self.new ≡ Self.moment self.old }
-        ensures wires { Self.wire_faults self.new ≡ Self.wire_faults self.old }
-        ensures dials { Self.dial_faults self.new ≡ Self.dial_faults self.old }
-        ensures doors { Self.doors self.new ≡ Self.doors self.old };
+        ensures told { (Self.outer self.new).events ≡ told (Self.outer self.old).events (delete_told wire key result) }
+        ensures cause { Counted result (Self.outer self.old).poller_faults (Self.outer self.new).poller_faults }
+        ensures memory { OnLack result ((Self.outer self.old).ample ≡ false) }
+        ensures keeps { Keeps part.Poller (Self.outer self.old) (Self.outer self.new) };
 }
 
 /// The part of a poller that ends another party's wait.
 pub trait Notifier: Tells {
     /// Has the wait that runs now, or else the next one, return at once.
     fn notify(&mut self) -> Result<(), Fault>
-        ensures told { Self.events self.new ≡ told (Self.events self.old) (notify_told result) }
-        ensures cause { Counted result (Self.poller_faults self.old) (Self.poller_faults self.new) }
-        ensures origin { Self.origin self.new ≡ Self.origin self.old }
-        ensures moment { Self.moment self.new ≡ Self.moment self.old }
-        ensures wires { Self.wire_faults self.new ≡ Self.wire_faults self.old }
-        ensures dials { Self.dial_faults self.new ≡ Self.dial_faults self.old }
-        ensures doors { Self.doors self.new ≡ Self.doors self.old };
+        ensures told { (Self.outer self.new).events ≡ told (Self.outer self.old).events (notify_told result) }
+        ensures cause { Counted result (Self.outer self.old).poller_faults (Self.outer self.new).poller_faults }
+        ensures memory { OnLack result ((Self.outer self.old).ample ≡ false) }
+        ensures keeps { Keeps part.Poller (Self.outer self.old) (Self.outer self.new) };
 }
 
 /// How a wait ended: with so many reports, or interrupted.
@@ -402,15 +373,12 @@ pub enum Waited {
 pub trait Waiter: Tells {
     /// Waits for reports, for at most `timeout` nanoseconds, and puts them at the front of the slice.
     fn wait(&mut self, timeout: Option<u64>, reports: &mut [Report]) -> Result<Waited, Fault>
-        ensures told { Self.events self.new ≡ told (Self.events self.old) (wait_told timeout reports.new result) }
+        ensures told { (Self.outer self.new).events ≡ told (Self.outer self.old).events (wait_told timeout reports.new result) }
         ensures amount { IfOk result (IsWaited (length reports.old)) }
         ensures room { length reports.new ≡ length reports.old }
-        ensures cause { Counted result (Self.poller_faults self.old) (Self.poller_faults self.new) }
-        ensures origin { Self.origin self.new ≡ Self.origin self.old }
-        ensures moment { Self.moment self.new ≡ Self.moment self.old }
-        ensures wires { Self.wire_faults self.new ≡ Self.wire_faults self.old }
-        ensures dials { Self.dial_faults self.new ≡ Self.dial_faults self.old }
-        ensures doors { Self.doors self.new ≡ Self.doors self.old };
+        ensures cause { Counted result (Self.outer self.old).poller_faults (Self.outer self.new).poller_faults }
+        ensures memory { OnLack result ((Self.outer self.old).ample ≡ false) }
+        ensures keeps { Keeps part.Poller (Self.outer self.old) (Self.outer self.new) };
 }
 
 /// A poller. Its three parts have one common count of faults.
@@ -437,38 +405,26 @@ pub enum Sent {
 pub trait Wire: Tells {
     /// Reads at most as many bytes as the slice has room for, and at least one where it has room.
     fn recv(&mut self, wire: u32, into: &mut [u8]) -> Result<Received, Fault>
-        ensures told { Self.events self.new ≡ told (Self.events self.old) (recv_told wire into.new result) }
+        ensures told { (Self.outer self.new).events ≡ told (Self.outer self.old).events (recv_told wire into.new result) }
         ensures amount { IfOk result (IsReceived (length into.old)) }
         ensures room { length into.new ≡ length into.old }
-        ensures cause { Counted result (Self.wire_faults self.old wire) (Self.wire_faults self.new wire) }
-        ensures others { SameBut wire (Self.wire_faults self.old) (Self.wire_faults self.new) }
-        ensures origin { Self.origin self.new ≡ Self.origin self.old }
-        ensures moment { Self.moment self.new ≡ Self.moment self.old }
-        ensures poller { Self.poller_faults self.new ≡ Self.poller_faults self.old }
-        ensures dials { Self.dial_faults self.new ≡ Self.dial_faults self.old }
-        ensures doors { Self.doors self.new ≡ Self.doors self.old };
+        ensures cause { Counted result ((Self.outer self.old).wire_faults wire) ((Self.outer self.new).wire_faults wire) }
+        ensures memory { OnLack result ((Self.outer self.old).ample ≡ false) }
+        ensures keeps { Keeps (part.Wire wire) (Self.outer self.old) (Self.outer self.new) };
 
     /// Offers a piece, of which the wire takes at least one byte where there is one.
     fn send(&mut self, wire: u32, bytes: &[u8]) -> Result<Sent, Fault>
-        ensures told { Self.events self.new ≡ told (Self.events self.old) (send_told wire bytes.now result) }
+        ensures told { (Self.outer self.new).events ≡ told (Self.outer self.old).events (send_told wire bytes.now result) }
         ensures amount { IfOk result (IsSent (length bytes.now)) }
-        ensures cause { Counted result (Self.wire_faults self.old wire) (Self.wire_faults self.new wire) }
-        ensures others { SameBut wire (Self.wire_faults self.old) (Self.wire_faults self.new) }
-        ensures origin { Self.origin self.new ≡ Self.origin self.old }
-        ensures moment { Self.moment self.new ≡ Self.moment self.old }
-        ensures poller { Self.poller_faults self.new ≡ Self.poller_faults self.old }
-        ensures dials { Self.dial_faults self.new ≡ Self.dial_faults self.old }
-        ensures doors { Self.doors self.new ≡ Self.doors self.old };
+        ensures cause { Counted result ((Self.outer self.old).wire_faults wire) ((Self.outer self.new).wire_faults wire) }
+        ensures memory { OnLack result ((Self.outer self.old).ample ≡ false) }
+        ensures keeps { Keeps (part.Wire wire) (Self.outer self.old) (Self.outer self.new) };
 
     /// Closes the wire.
     fn close(&mut self, wire: u32) -> Result<(), OutOfMemory>
-        ensures told { Self.events self.new ≡ told (Self.events self.old) (close_told wire result) }
-        ensures origin { Self.origin self.new ≡ Self.origin self.old }
-        ensures moment { Self.moment self.new ≡ Self.moment self.old }
-        ensures poller { Self.poller_faults self.new ≡ Self.poller_faults self.old }
-        ensures wires { Self.wire_faults self.new ≡ Self.wire_faults self.old }
-        ensures dials { Self.dial_faults self.new ≡ Self.dial_faults self.old }
-        ensures doors { Self.doors self.new ≡ Self.doors self.old };
+        ensures told { (Self.outer self.new).events ≡ told (Self.outer self.old).events (close_told wire result) }
+        ensures memory { OnErr result ((Self.outer self.old).ample ≡ false) }
+        ensures keeps { Keeps part.Record (Self.outer self.old) (Self.outer self.new) };
 }
 
 /// A connection that stands.
@@ -482,25 +438,17 @@ pub struct Opened {
 pub trait Dialer: Tells {
     /// Connects to the Unix socket at a path.
     fn dial_unix(&mut self, wire: u32, path: &str) -> Result<Opened, Fault>
-        ensures told { Self.events self.new ≡ told (Self.events self.old) (dial_told wire (question.Unix path.now) result) }
-        ensures cause { Counted result (Self.dial_faults self.old wire) (Self.dial_faults self.new wire) }
-        ensures others { SameBut wire (Self.dial_faults self.old) (Self.dial_faults self.new) }
-        ensures origin { Self.origin self.new ≡ Self.origin self.old }
-        ensures moment { Self.moment self.new ≡ Self.moment self.old }
-        ensures poller { Self.poller_faults self.new ≡ Self.poller_faults self.old }
-        ensures wires { Self.wire_faults self.new ≡ Self.wire_faults self.old }
-        ensures doors { Self.doors self.new ≡ Self.doors self.old };
+        ensures told { (Self.outer self.new).events ≡ told (Self.outer self.old).events (dial_told wire (question.Unix path.now) result) }
+        ensures cause { Counted result ((Self.outer self.old).dial_faults wire) ((Self.outer self.new).dial_faults wire) }
+        ensures memory { OnLack result ((Self.outer self.old).ample ≡ false) }
+        ensures keeps { Keeps (part.Dial wire) (Self.outer self.old) (Self.outer self.new) };
 
     /// Takes the connection that a peer opened.
     fn accept(&mut self, wire: u32) -> Result<Opened, Fault>
-        ensures told { Self.events self.new ≡ told (Self.events self.old) (dial_told wire question.Accept result) }
-        ensures cause { Counted result (Self.dial_faults self.old wire) (Self.dial_faults self.new wire) }
-        ensures others { SameBut wire (Self.dial_faults self.old) (Self.dial_faults self.new) }
-        ensures origin { Self.origin self.new ≡ Self.origin self.old }
-        ensures moment { Self.moment self.new ≡ Self.moment self.old }
-        ensures poller { Self.poller_faults self.new ≡ Self.poller_faults self.old }
-        ensures wires { Self.wire_faults self.new ≡ Self.wire_faults self.old }
-        ensures doors { Self.doors self.new ≡ Self.doors self.old };
+        ensures told { (Self.outer self.new).events ≡ told (Self.outer self.old).events (dial_told wire question.Accept result) }
+        ensures cause { Counted result ((Self.outer self.old).dial_faults wire) ((Self.outer self.new).dial_faults wire) }
+        ensures memory { OnLack result ((Self.outer self.old).ample ≡ false) }
+        ensures keeps { Keeps (part.Dial wire) (Self.outer self.old) (Self.outer self.new) };
 }
 
 /// All of the outside.

@@ -1,18 +1,21 @@
 //! The reactor: sources under keys, rounds and readiness.
-ghost use Rattle.std.specs.Prelude.{◌≡◌, ◌≤◌, ◌<◌, ◌^◌, ◌↔◌, ◌==◌, ℕ, if◌then◌else◌, None, Some, [], IsTrue, is_some, IfOk, OnOk, OnErr};
-ghost use Rattle.react_core.specs.Causes.{ReactCounted, InsertTold, RemoveTold};
-ghost use Rattle.react_core.specs.Core.{Core, inserted, removed};
+ghost use Rattle.std.specs.Prelude.{◌≡◌, ◌≤◌, ◌<◌, ◌^◌, ◌↔◌, ◌==◌, ℕ, if◌then◌else◌, None, Some, [], IsTrue, is_some, false, IfOk, OnOk, OnErr};
+ghost use Rattle.react_core.specs.Causes.{ReactCounted, OnReactLack, InsertTold, RemoveTold};
+ghost use Rattle.react_core.specs.Core.{Core, Fits, inserted, removed};
 ghost use Rattle.react_core.specs.Sources.{source_of, new_source, RisesFrom};
+ghost use Rattle.react_core.specs.Steps.{CoreSteps};
+ghost use Rattle.react_core.specs.Outer.{Keeps};
+ghost use Rattle.react_core.specs.Outer as part;
 ghost use Rattle.react_core.specs.Told.{told};
 
 use crate::outside::{Clock, Fault, OutOfMemory, Poller, Registrar, Report, Wakes};
-use crate::rounds::{run_round, take_reports, wake_all};
+use crate::rounds::{count_of, first_refusal, take_reports, wait_for_reports, wake_all};
 use crate::source::{Source, Waiting, find, make_room, put, put_in, take_out};
 use futures::task::Poll;
 use slab::Slab;
 use std::alloc::Global;
-use std::fmt;
 use std::marker::Model;
+use std::{fmt, mem};
 use thiserror::Error;
 
 /// A direction in which a source can be ready.
@@ -99,9 +102,10 @@ pub struct Reactor {
 }
 
 impl Model for Reactor {
-    ghost use Rattle.std.specs.Prelude.{if◌then◌else◌, Some, None, ◌+◌, ◌*◌, ◌≤◌, vec_len, vec_capacity, length};
+    ghost use Rattle.std.specs.Prelude.{◌≡◌, true, if◌then◌else◌, Some, None, ◌+◌, ◌*◌, ◌≤◌, vec_len, vec_capacity, length};
     ghost use Rattle.slab.specs.Slab.{entries};
     ghost use Rattle.react_core.specs.Core.{Core, ReactorState};
+    ghost use Rattle.react_core.specs.Sources.{AllLone};
 
     ghost Value = { ReactorState };
 
@@ -116,8 +120,12 @@ impl Model for Reactor {
       events = length r.reports.items;
     } };
 
-    // There is room for the two tasks that each source can hold.
-    ghost invariant = { λ r. vec_len r.hands + 2 * length (entries r.sources) ≤ vec_capacity r.hands };
+    // There is room for the two tasks that each source can hold, and an open round has a number above 0.
+    ghost invariant = { λ r. record {
+      room : vec_len r.hands + 2 * length (entries r.sources) ≤ vec_capacity r.hands;
+      lone : AllLone (entries r.sources);
+      numbered : r.in_round ≡ true → 1 ≤ r.ticker;
+    } };
 }
 
 impl Reactor {
@@ -196,20 +204,15 @@ impl Reactor {
         self.sources.contains(key)
     }
 
-    /// Law: the sources stand in the order of their keys, and no two have one key.
-    pub fn keys_rise(&self)
-        ensures { RisesFrom 0 self.now.core.sources }
+    /// Law: no number passes `u64::MAX`, and the keys of the sources rise.
+    pub fn fits(&self)
+        ensures { Fits self.now.core }
     {
+        let (ticker, made, begun) = (self.ticker, self.made, self.begun);
+        prove!(ticker <= u64::MAX);
+        prove!(made <= u64::MAX);
+        prove!(begun <= u64::MAX);
         let _ = &self.sources;
-    }
-
-    /// Law: the counters are numbers of 64 bits.
-    pub fn counters_fit(&self)
-        ensures ticker { self.now.core.ticker < 2 ^ 64 }
-        ensures begun { self.now.core.begun < 2 ^ 64 }
-    {
-        let (ticker, begun) = (self.ticker, self.begun);
-        prove!(ticker <= u64::MAX && begun <= u64::MAX);
     }
 
     /// Whether a round was begun and not finished.
@@ -222,6 +225,7 @@ impl Reactor {
 
 impl Reactor {
     ghost use Rattle.react_core.specs.Core.{HasSource};
+    ghost use Rattle.react_core.specs.Step.{Step, Insert, Remove, Done};
 
     /// Registers a wire with the poller and gives its source a key that no source has.
     ///
@@ -233,16 +237,18 @@ impl Reactor {
         wire: u32,
     ) -> Result<usize, ReactError>
         ensures free { IfOk result (λ key. source_of self.old.core.sources key ≡ None) }
+        ensures steps { CoreSteps self.old.core self.new.core }
+        ensures step { IfOk result (λ key. Step self.old.core (Insert wire key) Done [] self.new.core) }
         ensures inserted { IfOk result (λ key. self.new ≡ record self.old { core = inserted self.old.core key wire }) }
+        ensures undone { IfOk result (λ key. removed self.new.core key ≡ self.old.core) }
+        ensures others { IfOk result (λ key. (other : ℕ) → source_of self.new.core.sources other ≡
+            (if key == other then Some (new_source wire) else source_of self.old.core.sources other)) }
         ensures err { OnErr result (self.new ≡ self.old) }
-        ensures told { InsertTold self.old.core wire result (R.events registrar.old) (R.events registrar.new) }
-        ensures cause { ReactCounted result (R.poller_faults registrar.old) (R.poller_faults registrar.new) }
-        ensures origin { R.origin registrar.new ≡ R.origin registrar.old }
-        ensures moment { R.moment registrar.new ≡ R.moment registrar.old }
-        ensures wires { R.wire_faults registrar.new ≡ R.wire_faults registrar.old }
-        ensures dials { R.dial_faults registrar.new ≡ R.dial_faults registrar.old }
-        ensures doors { R.doors registrar.new ≡ R.doors registrar.old }
+        ensures told { InsertTold self.old.core wire result (R.outer registrar.old).events (R.outer registrar.new).events }
+        ensures cause { ReactCounted result (R.outer registrar.old).poller_faults (R.outer registrar.new).poller_faults }
+        ensures keeps { Keeps part.Poller (R.outer registrar.old) (R.outer registrar.new) }
     {
+        // Whatever can be refused comes first, so that there is nothing to take back.
         make_room(&mut self.sources, &mut self.hands)?;
         let key = self.sources.vacant_key();
         registrar.add(wire, key)?;
@@ -258,15 +264,18 @@ impl Reactor {
         key: usize,
     ) -> Result<(), ReactError>
         requires { HasSource self.old.core key }
+        ensures steps { CoreSteps self.old.core self.new.core }
+        ensures step { Step self.old.core (Remove key) Done [] self.new.core }
         ensures removed { self.new ≡ record self.old { core = removed self.old.core key } }
-        ensures told { RemoveTold (source_of self.old.core.sources key) key result (R.events registrar.old) (R.events registrar.new) }
-        ensures cause { ReactCounted result (R.poller_faults registrar.old) (R.poller_faults registrar.new) }
-        ensures origin { R.origin registrar.new ≡ R.origin registrar.old }
-        ensures moment { R.moment registrar.new ≡ R.moment registrar.old }
-        ensures wires { R.wire_faults registrar.new ≡ R.wire_faults registrar.old }
-        ensures dials { R.dial_faults registrar.new ≡ R.dial_faults registrar.old }
-        ensures doors { R.doors registrar.new ≡ R.doors registrar.old }
+        ensures others { (other : ℕ) → source_of self.new.core.sources other ≡
+            (if key == other then None else source_of self.old.core.sources other) }
+        ensures memory { OnReactLack result ((R.outer registrar.old).ample ≡ false) }
+        ensures told { RemoveTold (source_of self.old.core.sources key) key result
+            (R.outer registrar.old).events (R.outer registrar.new).events }
+        ensures cause { ReactCounted result (R.outer registrar.old).poller_faults (R.outer registrar.new).poller_faults }
+        ensures keeps { Keeps part.Poller (R.outer registrar.old) (R.outer registrar.new) }
     {
+        // It goes whatever the poller answers.
         let Some(source) = take_out(&mut self.sources, key) else {
             unreachable!()
         };
@@ -299,18 +308,18 @@ impl Reactor {
     ) -> Result<Poll<()>, ReactError>
         requires { HasSource self.old.core key }
         ensures ready { IfOk result (λ answer. is_ready answer ≡ fresh self.old.core key dir) }
-        ensures step { IfOk result (λ answer. Step self.old.core (PolledPoll key dir task) (Polled answer) (woken_by (poll_outcome self.old.core key dir task)) self.new.core) }
+        ensures steps { CoreSteps self.old.core self.new.core }
+        ensures step { IfOk result (λ answer. Step self.old.core (PolledPoll key dir task) (Polled answer)
+            (woken_by (poll_outcome self.old.core key dir task)) self.new.core) }
         ensures woken { OnOk result (WokeAll W.woke wakes.old (woken_by (poll_outcome self.old.core key dir task)) wakes.new) }
         ensures err { OnErr result (self.new ≡ self.old × wakes.new ≡ wakes.old) }
+        ensures memory { OnReactLack result ((R.outer registrar.old).ample ≡ false) }
         ensures refused { OnErr result (IsTrue (arms (poll_outcome self.old.core key dir task))) }
-        ensures told { R.events registrar.new ≡ told (R.events registrar.old) (poll_told self.old.core key dir task result) }
-        ensures cause { ReactCounted result (R.poller_faults registrar.old) (R.poller_faults registrar.new) }
+        ensures told { (R.outer registrar.new).events ≡
+            told (R.outer registrar.old).events (poll_told self.old.core key dir task result) }
+        ensures cause { ReactCounted result (R.outer registrar.old).poller_faults (R.outer registrar.new).poller_faults }
         ensures reports { self.new.events ≡ self.old.events }
-        ensures origin { R.origin registrar.new ≡ R.origin registrar.old }
-        ensures moment { R.moment registrar.new ≡ R.moment registrar.old }
-        ensures wires { R.wire_faults registrar.new ≡ R.wire_faults registrar.old }
-        ensures dials { R.dial_faults registrar.new ≡ R.dial_faults registrar.old }
-        ensures doors { R.doors registrar.new ≡ R.doors registrar.old }
+        ensures keeps { Keeps part.Poller (R.outer registrar.old) (R.outer registrar.new) }
     {
         let Some(source) = find(&self.sources, key) else {
             unreachable!()
@@ -320,20 +329,20 @@ impl Reactor {
             since: self.ticker,
             task: Some(task),
         };
-        if let Some(waiting) = interest.polled {
-            if waiting.since < interest.reported {
-                put(&mut self.sources, key, source.with_polled(dir, None));
-                return Ok(Poll::Ready(()));
-            }
-            if let Some(stored) = waiting.task {
-                if stored != task {
-                    put(&mut self.sources, key, source.with_polled(dir, Some(next)));
-                    self.begun = self.begun.saturating_add(1);
-                    wakes.wake(stored);
-                }
-                return Ok(Poll::Pending);
-            }
+        if interest.is_fresh() {
+            put(&mut self.sources, key, source.with_polled(dir, None));
+            return Ok(Poll::Ready(()));
         }
+        if let Some(stored) = interest.task() {
+            // The direction is armed already, for the task that is stored.
+            if stored != task {
+                put(&mut self.sources, key, source.with_polled(dir, Some(next)));
+                self.begun = self.begun.saturating_add(1);
+                wakes.wake(stored);
+            }
+            return Ok(Poll::Pending);
+        }
+        // The poller is asked before anything is stored, so that its refusal leaves all as it was.
         let armed = source.with_polled(dir, Some(next));
         registrar.modify(source.wire, key, armed.read.waits(), armed.write.waits())?;
         put(&mut self.sources, key, armed);
@@ -361,6 +370,7 @@ impl Reactor {
         requires { self.old.core.hands ≡ None }
         ensures begun { IfOk result (λ b. b ≡ record { round = self.old.core.ticker + 1; timeout = timeout }) }
         ensures core { OnOk result (self.new ≡ record self.old { core = begun_round self.old.core }) }
+        ensures steps { CoreSteps self.old.core self.new.core }
         ensures step { OnOk result (Step self.old.core Begin Done [] self.new.core) }
         ensures err { OnErr result (self.new ≡ self.old) }
         ensures cause { NumberedBy result self.old.core.ticker }
@@ -399,16 +409,16 @@ impl Reactor {
     ) -> Result<(), ReactError>
         requires { IsRoundOpen self.old.core }
         ensures core { self.new ≡ record self.old { core = finished_round self.old.core reports.now } }
+        ensures steps { CoreSteps self.old.core self.new.core }
         ensures step { Step self.old.core (Finish reports.now) Done (finish_wakes self.old.core reports.now) self.new.core }
         ensures woken { WokeAll W.woke wakes.old (finish_wakes self.old.core reports.now) wakes.new }
-        ensures told { OnOk result (R.events registrar.new ≡ told (R.events registrar.old) (map armed_told (armings_by_all self.old.core.ticker self.old.core.sources reports.now))) }
-        ensures tried { (tries : List Try) × Tried (armings_by_all self.old.core.ticker self.old.core.sources reports.now) result (R.events registrar.old) (R.events registrar.new) tries }
-        ensures cause { ReactCounted result (R.poller_faults registrar.old) (R.poller_faults registrar.new) }
-        ensures origin { R.origin registrar.new ≡ R.origin registrar.old }
-        ensures moment { R.moment registrar.new ≡ R.moment registrar.old }
-        ensures wires { R.wire_faults registrar.new ≡ R.wire_faults registrar.old }
-        ensures dials { R.dial_faults registrar.new ≡ R.dial_faults registrar.old }
-        ensures doors { R.doors registrar.new ≡ R.doors registrar.old }
+        ensures told { OnOk result ((R.outer registrar.new).events ≡ told (R.outer registrar.old).events
+            (map armed_told (armings_by_all self.old.core.ticker self.old.core.sources reports.now))) }
+        ensures memory { OnReactLack result ((R.outer registrar.old).ample ≡ false) }
+        ensures tried { (tries : List Try) × Tried (armings_by_all self.old.core.ticker self.old.core.sources reports.now) result
+            (R.outer registrar.old).events (R.outer registrar.new).events tries }
+        ensures cause { ReactCounted result (R.outer registrar.old).poller_faults (R.outer registrar.new).poller_faults }
+        ensures keeps { Keeps part.Poller (R.outer registrar.old) (R.outer registrar.new) }
     {
         let taken = take_reports(
             self.ticker,
@@ -417,6 +427,7 @@ impl Reactor {
             registrar,
             reports,
         );
+        // Also after a refusal: nobody else would wake the tasks that were taken.
         wake_all(wakes, &self.hands);
         self.hands.clear();
         self.in_round = false;
@@ -427,9 +438,7 @@ impl Reactor {
 impl Reactor {
     ghost use Rattle.std.specs.Prelude.{List};
     ghost use Rattle.react_core.specs.Reports.{Try};
-    ghost use Rattle.react_core.specs.Step.{RoundSteps, WokeAll};
-    ghost use Rattle.react_core.specs.declared.outside.Report.{Report};
-    ghost use Rattle.react_core.specs.Round.{Course, CourseClock, Ran, Round, Rounds, NumberedBy, OnExhausted, UnlessExhausted, RoundCounted};
+    ghost use Rattle.react_core.specs.Round.{Course, Ran, NumberedBy, OnExhausted, UnlessExhausted, RoundCounted};
 
     /// One round over an outside: reads the clock, begins, waits, and finishes with the reports that came. The clock is
     /// read again exactly where nothing came in time, the wait was not interrupted and its timeout wasn't zero. A wait
@@ -439,59 +448,43 @@ impl Reactor {
     /// an arming. No round is open afterwards in any case.
     pub fn react<O: Clock + Poller, W: Wakes>(
         &mut self,
-        _alloc: Global,
+        alloc: Global,
         outside: &mut O,
         wakes: &mut W,
         timeout: Option<u64>,
     ) -> Result<(), ReactError>
         requires { self.old.core.hands ≡ None }
-        ensures steps { IfOk result (λ _. (reports : List Report) × (woken : List ℕ) × RoundSteps self.old.core reports woken self.new.core × WokeAll W.woke wakes.old woken wakes.new) }
-        ensures rounds { IfOk result (λ _. (r : Round) × Rounds W.woke timeout (O.events outside.old) (O.events outside.new) self.old.core self.new.core wakes.old wakes.new r) }
-        ensures ran { UnlessExhausted result ((course : Course) × (tries : List Try) × Ran W.woke timeout (O.events outside.old) (O.events outside.new) (O.moment outside.old) (O.moment outside.new) self.old.core self.new.core wakes.old wakes.new result course tries) }
+        ensures steps { CoreSteps self.old.core self.new.core }
+        ensures ran { UnlessExhausted result ((course : Course) × (tries : List Try) ×
+            Ran W.woke timeout (O.outer outside.old).events (O.outer outside.new).events (O.outer outside.old).moment
+            (O.outer outside.new).moment self.old self.new wakes.old wakes.new result course tries) }
         ensures closed { self.new.core.hands ≡ None }
         ensures reports { self.new.events ≡ self.old.events }
         ensures numbered { NumberedBy result self.old.core.ticker }
-        ensures exhausted { OnExhausted result (self.new ≡ self.old × wakes.new ≡ wakes.old × O.events outside.new ≡ O.events outside.old × O.moment outside.new ≡ O.moment outside.old) }
-        ensures cause { RoundCounted result (O.poller_faults outside.old) (O.poller_faults outside.new) }
-        ensures origin { O.origin outside.new ≡ O.origin outside.old }
-        ensures wires { O.wire_faults outside.new ≡ O.wire_faults outside.old }
-        ensures dials { O.dial_faults outside.new ≡ O.dial_faults outside.old }
-        ensures doors { O.doors outside.new ≡ O.doors outside.old }
+        ensures exhausted { OnExhausted result (self.new ≡ self.old × wakes.new ≡ wakes.old ×
+            (O.outer outside.new).events ≡ (O.outer outside.old).events ×
+            (O.outer outside.new).moment ≡ (O.outer outside.old).moment) }
+        ensures memory { OnReactLack result ((O.outer outside.old).ample ≡ false) }
+        ensures cause { RoundCounted result (O.outer outside.old).poller_faults (O.outer outside.new).poller_faults }
+        ensures keeps { Keeps part.Round (O.outer outside.old) (O.outer outside.new) }
     {
+        // Before the clock is read: this refusal asks nothing of the outside.
         if self.ticker == u64::MAX {
             return Err(ReactError::Exhausted {
                 counter: Counter::Round,
                 value: self.ticker,
             });
         }
-        let _first = outside.now()?;
-        self.ticker += 1;
-        self.hands.clear();
-        let answer = run_round(
-            self.ticker,
-            &mut self.sources,
-            &mut self.hands,
-            &mut self.reports,
-            outside,
-            wakes,
-            timeout,
-        );
-        self.in_round = false;
-        answer
+        let first = outside.now()?;
+        let begun = self.begin_round(alloc, first, timeout)?;
+        // The reports are taken out of the reactor, which the round's end changes while it reads them.
+        let mut reports = mem::replace(&mut self.reports, Vec::new(alloc));
+        let buffer = reports.as_mut_slice();
+        let waited = wait_for_reports(outside, begun.timeout, buffer);
+        // The round ends in any case, with no reports where the wait was refused.
+        let (shown, _rest) = buffer.split_at(count_of(&waited));
+        let finished = self.finish_round(alloc, outside, wakes, shown, None);
+        self.reports = reports;
+        first_refusal(waited, finished)
     }
 }
-
-/// Law: a source that is inserted under a free key and removed leaves the core as it was.
-pub fn removal_undoes_insertion()
-    ensures { (core : Core) (key wire : ℕ) → source_of core.sources key ≡ None → removed (inserted core key wire) key ≡ core }
-{}
-
-/// Law: an insertion puts a new source under its free key, and leaves every other key as it was.
-pub fn insertion_changes_one_key()
-    ensures { (core : Core) (key wire other : ℕ) → source_of core.sources key ≡ None → source_of (inserted core key wire).sources other ≡ (if key == other then Some (new_source wire) else source_of core.sources other) }
-{}
-
-/// Law: where keys rise, a removal empties its key, and leaves every other key as it was.
-pub fn removal_changes_one_key()
-    ensures { (core : Core) (key other : ℕ) → RisesFrom 0 core.sources → source_of (removed core key).sources other ≡ (if key == other then None else source_of core.sources other) }
-{}

@@ -1,52 +1,23 @@
 //! The parts of a round: its wait, its reports and its wakes.
-ghost use Rattle.std.specs.Prelude.{◌≡◌, ◌+◌, ◌*◌, ◌++◌, ◌≤◌, List, [], length, take, vec_len, vec_capacity};
+ghost use Rattle.std.specs.Prelude.{◌≡◌, ◌+◌, ◌*◌, ◌++◌, ◌≤◌, false, List, [], length, take, vec_len, vec_capacity};
 ghost use Rattle.std.specs.Result.{result_unwrap_or};
 ghost use Rattle.slab.specs.Slab.{entries};
-ghost use Rattle.react_core.specs.Causes.{ReactCounted};
+ghost use Rattle.react_core.specs.Causes.{ReactCounted, OnReactLack};
 ghost use Rattle.react_core.specs.Reports.{after_report, after_reports, taken_by, taken_by_all, armings_by, armings_by_all, Try, Tried, tries_of, tries_told, AnswersArming, worse, try_answer};
-ghost use Rattle.react_core.specs.Round.{Pause, Paused, Passed, not_zero, answer_of, then_answer};
+ghost use Rattle.react_core.specs.Round.{Pause, Paused, not_zero, answer_of, then_answer};
+ghost use Rattle.react_core.specs.Sources.{AllLone};
 ghost use Rattle.react_core.specs.Step.{WokeAll};
-ghost use Rattle.react_core.specs.Told.{told, Counted};
+ghost use Rattle.react_core.specs.Outer.{Keeps};
+ghost use Rattle.react_core.specs.Outer as part;
+ghost use Rattle.react_core.specs.Told.{told, Counted, OnLack};
 
-use crate::outside::{Clock, Fault, Poller, Registrar, Report, Waited, Waiter, Wakes};
+use crate::outside::{Clock, Fault, Registrar, Report, Waited, Waiter, Wakes};
 use crate::reactor::ReactError;
 use crate::source::{Source, find, put};
 use slab::Slab;
 
-/// The rest of a round with this number, once it has begun: waits, goes through the reports and wakes what they take.
-pub(crate) fn run_round<O: Clock + Poller, W: Wakes>(
-    ticker: u64,
-    sources: &mut Slab<Source>,
-    hands: &mut Vec<u64>,
-    reports: &mut [Report],
-    outside: &mut O,
-    wakes: &mut W,
-    timeout: Option<u64>,
-) -> Result<(), ReactError>
-    requires empty { hands.old.items ≡ [] }
-    requires room { vec_len hands.old + 2 * length (entries sources.old) ≤ vec_capacity hands.old }
-    ensures passed { (p : Pause) × (tries : List Try) × Passed W.woke timeout (O.events outside.old) (O.events outside.new) (O.moment outside.old) (O.moment outside.new) ticker (entries sources.old) (entries sources.new) wakes.old wakes.new result p tries }
-    ensures len { length (entries sources.new) ≡ length (entries sources.old) }
-    ensures hands { vec_len hands.new ≡ 0 }
-    ensures capacity { vec_capacity hands.new ≡ vec_capacity hands.old }
-    ensures reports { length reports.new ≡ length reports.old }
-    ensures cause { ReactCounted result (O.poller_faults outside.old) (O.poller_faults outside.new) }
-    ensures origin { O.origin outside.new ≡ O.origin outside.old }
-    ensures wires { O.wire_faults outside.new ≡ O.wire_faults outside.old }
-    ensures dials { O.dial_faults outside.new ≡ O.dial_faults outside.old }
-    ensures doors { O.doors outside.new ≡ O.doors outside.old }
-{
-    let waited = wait_for_reports(outside, timeout, reports);
-    let count = count_of(&waited);
-    let (shown, _rest) = reports.split_at(count);
-    let taken = take_reports(ticker, sources, hands, outside, shown);
-    wake_all(wakes, hands.as_slice());
-    hands.clear();
-    first_refusal(waited, taken)
-}
-
 /// How many reports a wait gave.
-fn count_of(waited: &Result<usize, ReactError>) -> usize
+pub(crate) fn count_of(waited: &Result<usize, ReactError>) -> usize
     ensures { result ≡ result_unwrap_or waited.now 0 }
 {
     match waited {
@@ -56,7 +27,7 @@ fn count_of(waited: &Result<usize, ReactError>) -> usize
 }
 
 /// The wait's refusal, else the answer to its reports.
-fn first_refusal(
+pub(crate) fn first_refusal(
     waited: Result<usize, ReactError>,
     taken: Result<(), ReactError>,
 ) -> Result<(), ReactError>
@@ -74,15 +45,15 @@ pub(crate) fn wait_for_reports<O: Clock + Waiter>(
     timeout: Option<u64>,
     reports: &mut [Report],
 ) -> Result<usize, ReactError>
-    ensures pause { (p : Pause) × Paused timeout (O.events outside.old) (O.events outside.new) (O.moment outside.old) (O.moment outside.new) (take (result_unwrap_or result 0) reports.new) result p }
+    ensures pause { (p : Pause) × Paused timeout (O.outer outside.old).events (O.outer outside.new).events
+        (O.outer outside.old).moment (O.outer outside.new).moment (take (result_unwrap_or result 0) reports.new) result p }
     ensures within { result_unwrap_or result 0 ≤ length reports.old }
-    ensures cause { ReactCounted result (O.poller_faults outside.old) (O.poller_faults outside.new) }
-    ensures origin { O.origin outside.new ≡ O.origin outside.old }
-    ensures wires { O.wire_faults outside.new ≡ O.wire_faults outside.old }
-    ensures dials { O.dial_faults outside.new ≡ O.dial_faults outside.old }
-    ensures doors { O.doors outside.new ≡ O.doors outside.old }
+    ensures memory { OnReactLack result ((O.outer outside.old).ample ≡ false) }
+    ensures cause { ReactCounted result (O.outer outside.old).poller_faults (O.outer outside.new).poller_faults }
+    ensures keeps { Keeps part.Round (O.outer outside.old) (O.outer outside.new) }
 {
     let count = match outside.wait(timeout, reports)? {
+        // The timeout need not have passed.
         Waited::Interrupted => return Ok(0),
         Waited::Reported(count) => count,
     };
@@ -119,21 +90,22 @@ pub(crate) fn take_reports<R: Registrar>(
     registrar: &mut R,
     reports: &[Report],
 ) -> Result<(), ReactError>
+    requires begun { 1 ≤ ticker }
+    requires lone { AllLone (entries sources.old) }
     requires room { vec_len hands.old + 2 * length (entries sources.old) ≤ vec_capacity hands.old }
     ensures sources { entries sources.new ≡ after_reports ticker (entries sources.old) reports.now }
     ensures len { length (entries sources.new) ≡ length (entries sources.old) }
     ensures hands { hands.new.items ≡ hands.old.items ++ taken_by_all ticker (entries sources.old) reports.now }
     ensures capacity { vec_capacity hands.new ≡ vec_capacity hands.old }
-    ensures tried { (tries : List Try) × Tried (armings_by_all ticker (entries sources.old) reports.now) result (R.events registrar.old) (R.events registrar.new) tries }
-    ensures cause { ReactCounted result (R.poller_faults registrar.old) (R.poller_faults registrar.new) }
-    ensures origin { R.origin registrar.new ≡ R.origin registrar.old }
-    ensures moment { R.moment registrar.new ≡ R.moment registrar.old }
-    ensures wires { R.wire_faults registrar.new ≡ R.wire_faults registrar.old }
-    ensures dials { R.dial_faults registrar.new ≡ R.dial_faults registrar.old }
-    ensures doors { R.doors registrar.new ≡ R.doors registrar.old }
+    ensures tried { (tries : List Try) × Tried (armings_by_all ticker (entries sources.old) reports.now) result
+        (R.outer registrar.old).events (R.outer registrar.new).events tries }
+    ensures memory { OnReactLack result ((R.outer registrar.old).ample ≡ false) }
+    ensures cause { ReactCounted result (R.outer registrar.old).poller_faults (R.outer registrar.new).poller_faults }
+    ensures keeps { Keeps part.Poller (R.outer registrar.old) (R.outer registrar.new) }
 {
     let mut answer = Ok(());
     for report in reports {
+        // A refusal ends nothing: the later reports hold tasks, too.
         let armed = take_report(ticker, sources, hands, registrar, *report);
         answer = worse_of(answer, armed);
     }
@@ -162,19 +134,18 @@ fn take_report<R: Registrar>(
     registrar: &mut R,
     report: Report,
 ) -> Result<(), Fault>
+    requires begun { 1 ≤ ticker }
     requires room { vec_len hands.old + length (taken_by (entries sources.old) report) ≤ vec_capacity hands.old }
     ensures sources { entries sources.new ≡ after_report ticker (entries sources.old) report }
     ensures hands { hands.new.items ≡ hands.old.items ++ taken_by (entries sources.old) report }
     ensures len { vec_len hands.new ≡ vec_len hands.old + length (taken_by (entries sources.old) report) }
     ensures capacity { vec_capacity hands.new ≡ vec_capacity hands.old }
-    ensures told { R.events registrar.new ≡ told (R.events registrar.old) (tries_told (tries_of (armings_by ticker (entries sources.old) report) result)) }
+    ensures told { (R.outer registrar.new).events ≡ told (R.outer registrar.old).events
+        (tries_told (tries_of (armings_by ticker (entries sources.old) report) result)) }
     ensures answers { AnswersArming (armings_by ticker (entries sources.old) report) result }
-    ensures cause { Counted result (R.poller_faults registrar.old) (R.poller_faults registrar.new) }
-    ensures origin { R.origin registrar.new ≡ R.origin registrar.old }
-    ensures moment { R.moment registrar.new ≡ R.moment registrar.old }
-    ensures wires { R.wire_faults registrar.new ≡ R.wire_faults registrar.old }
-    ensures dials { R.dial_faults registrar.new ≡ R.dial_faults registrar.old }
-    ensures doors { R.doors registrar.new ≡ R.doors registrar.old }
+    ensures memory { OnLack result ((R.outer registrar.old).ample ≡ false) }
+    ensures cause { Counted result (R.outer registrar.old).poller_faults (R.outer registrar.new).poller_faults }
+    ensures keeps { Keeps part.Poller (R.outer registrar.old) (R.outer registrar.new) }
 {
     let Some(mut source) = find(sources, report.key) else {
         return Ok(());
@@ -191,5 +162,6 @@ fn take_report<R: Registrar>(
     if !read && !write {
         return Ok(());
     }
+    // An arming names all directions of its key in place of those that it named before.
     registrar.modify(source.wire, report.key, read, write)
 }

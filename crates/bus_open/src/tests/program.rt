@@ -53,8 +53,8 @@ fn words_and_scripts_are_refused_with_their_line_and_reason(rt: HostRuntime) -> 
         (&["bulk", "+6"], "refused 0 words\n"),
         (&["bulk", ""], "refused 0 words\n"),
         (&["bulk"], "refused 0 words\n"),
-        (&["check", "signature", "xs"], "refused 0 not-built\n"),
-        (&["check", "well-known", ""], "refused 0 not-built\n"),
+        (&["check", "signature", "xs", ""], "refused 0 words\n"),
+        (&["check", "Signature", "xs"], "refused 0 words\n"),
         (&["check", "colour", "red"], "refused 0 words\n"),
         (&["check", "signature"], "refused 0 words\n"),
     ];
@@ -109,6 +109,15 @@ send 1 00415554482045585445524e414c2033313330333033300d0a took 25
 recv 1 1024 bytes 4f4b2031323334646561646265656631323334646561646265656631323334353637380d0a
 send 1 424547494e0d0a took 7
 delete 1 0 ok
+";
+
+/// What is told of the second of two clients, whatever the first one's peer says.
+const ALONE_OPEN: &str =
+    "session 1 open:1234deadbeef1234deadbeef12345678:n 00415554482045585445524e414c2033313330333033300d0a424547494e0d0a . -
+dial 1 unix 2f72756e2f62 = open n
+send 1 00415554482045585445524e414c2033313330333033300d0a took 25
+recv 1 1024 bytes 4f4b2031323334646561646265656631323334646561646265656631323334353637380d0a
+send 1 424547494e0d0a took 7
 ";
 
 /// A client whose peer says nothing, and who is left waiting at once.
@@ -293,9 +302,96 @@ fn a_longest_line_is_read_1024_bytes_at_a_time(rt: HostRuntime) -> Result<(), Fa
     Ok(())
 }
 
+/// A wait whose answer names 70 keys gives the first 64.
+#[test]
+fn a_wait_gives_as_many_reports_as_the_reactor_takes(rt: HostRuntime) -> Result<(), Fail> {
+    let alloc = rt.alloc();
+    let mut script = String::new(alloc);
+    let mut text = String::new(alloc);
+    write!(script, "rounds 1\n{CLIENT}dial 0 open n\nwait reports")?;
+    writeln!(text, "session 0 waiting {AUTH} . -")?;
+    writeln!(
+        text,
+        "dial 0 unix 2f72756e2f61 = open n\nadd 0 0 ok\nsend 0 {AUTH} took 25"
+    )?;
+    write!(
+        text,
+        "recv 0 1024 again\nmodify 0 0 r ok\nnow 0\nwait - reports"
+    )?;
+    for key in 100..170 {
+        write!(script, " k{key}r")?;
+        if key < 164 {
+            write!(text, " {key}r")?;
+        }
+    }
+    writeln!(script, "")?;
+    writeln!(text, "\ndelete 0 0 ok")?;
+    let (sink, status) = outcome(alloc, &["play"], script.as_str().as_bytes(), &[], 5000)?;
+    assert_eq!(rt; sink.bytes(), text.as_str().as_bytes());
+    assert_eq!(rt; status, 1);
+    Ok(())
+}
+
 fn push_times(text: &mut String, piece: &str, count: usize) -> Result<(), Fail> {
     for _ in 0..count {
         text.push_str(piece)?;
+    }
+    Ok(())
+}
+
+/// What a run told of the second session: its ending and its part of the record.
+fn told_of_the_second(alloc: Global, script: &str) -> Result<String, Fail> {
+    let (sink, _status) = outcome(alloc, &["play"], script.as_bytes(), &[], 200_000)?;
+    let text = String::from_utf8(sink.bytes().to_vec(alloc)?)?;
+    let mut told = String::new(alloc);
+    for line in text.as_str().split('\n') {
+        for word in ["session 1 ", "dial 1 ", "send 1 ", "recv 1 "] {
+            if line.starts_with(word) {
+                writeln!(told, "{line}")?;
+            }
+        }
+    }
+    Ok(told)
+}
+
+/// Two clients of which the first meets a hostile peer, and the second one that opens.
+fn beside(alloc: Global, first: &str) -> Result<String, Fail> {
+    let mut script = String::new(alloc);
+    write!(
+        script,
+        "rounds 5\n{CLIENT}client EXTERNAL 1000 - n - unix:path=/run/b\n"
+    )?;
+    write!(script, "{first}dial 1 open n\nrecv 1 bytes {OK}\n")?;
+    Ok(script)
+}
+
+#[test]
+fn a_hostile_peer_changes_nothing_for_its_neighbour(rt: HostRuntime) -> Result<(), Fail> {
+    let alloc = rt.alloc();
+    let alone = beside(alloc, "dial 0 fault\n")?;
+    let wanted = told_of_the_second(alloc, alone.as_str())?;
+    assert_eq!(rt; wanted.as_str(), ALONE_OPEN);
+
+    // A piece in hexadecimal digits, and how often the peer says it: nonsense in 64 lines, half a line, NUL bytes, 16385
+    // bytes without a line feed, and nothing.
+    let pieces = [
+        ("41410d0a", 64),
+        ("4f4b20", 1),
+        ("00", 40),
+        ("41", 16385),
+        ("41", 0),
+    ];
+    for (piece, count) in pieces {
+        let mut first = String::new(alloc);
+        write!(first, "dial 0 open n\n")?;
+        if count > 0 {
+            write!(first, "recv 0 bytes ")?;
+            push_times(&mut first, piece, count)?;
+            write!(first, "\n")?;
+        }
+        let script = beside(alloc, first.as_str())?;
+        let told = told_of_the_second(alloc, script.as_str())?;
+        assert_eq!(rt; told.as_str(), wanted.as_str(), "{piece}");
     }
     Ok(())
 }
@@ -318,5 +414,68 @@ fn a_sink_that_fails_holds_the_first_bytes(rt: HostRuntime) -> Result<(), Fail> 
     let (sink, status) = outcome(rt.alloc(), &["play", "x"], b"", &[], 10)?;
     assert_eq!(rt; sink.bytes(), b"refused 0 ".as_slice());
     assert_eq!(rt; status, 2);
+    Ok(())
+}
+
+#[test]
+fn a_text_is_said_to_be_what_it_is(rt: HostRuntime) -> Result<(), Fail> {
+    // The kind and the text, and the line and the status.
+    let rows: [(&str, &str, &str, u8); 30] = [
+        ("signature", "a{sv}", "ok a{sv} 5 4\n", 0),
+        ("signature", "xs", "ok (xs) 4 8\n", 0),
+        ("signature", "(xs)", "ok (xs) 4 8\n", 0),
+        ("signature", "a{vs}", "ok a{vs} 5 4\n", 0),
+        ("signature", "", "ok  0 8\n", 0),
+        ("signature", "()", "refused InvalidSignature\n", 1),
+        ("signature", "a{y}", "refused InvalidSignature\n", 1),
+        ("signature", "xs)", "refused InvalidSignature\n", 1),
+        ("signature", "a", "refused InvalidSignature\n", 1),
+        ("bus", "org.freedesktop.DBus", "ok unique\n", 0),
+        ("bus", ":1.42", "ok unique\n", 0),
+        ("bus", "org.example.Clock", "ok well-known\n", 0),
+        ("bus", "org", "refused InvalidName\n", 1),
+        ("well-known", "org.freedesktop.DBus", "ok\n", 0),
+        ("unique", ":1.42", "ok\n", 0),
+        ("unique", ":1", "refused InvalidName\n", 1),
+        ("interface", "org.example.Alarm", "ok\n", 0),
+        ("error", "org.example.Alarm.NoSuchTime", "ok\n", 0),
+        ("member", "SetAlarm", "ok\n", 0),
+        ("member", "a.b", "refused InvalidName\n", 1),
+        ("property", "", "refused InvalidName\n", 1),
+        ("property", "\u{1}\"\u{e9}'", "ok\n", 0),
+        (
+            "address",
+            "ibus:guid=1234deadbeef1234deadbeef12345678",
+            "ok ibus:guid=1234deadbeef1234deadbeef12345678\n",
+            0,
+        ),
+        (
+            "address",
+            "ibus:,guid=1234deadbeef1234deadbeef12345678",
+            "refused Form\n",
+            1,
+        ),
+        ("address", "", "refused Form\n", 1),
+        (
+            "address",
+            "unix:path=/tmp,abstract=foo",
+            "refused Keys\n",
+            1,
+        ),
+        ("address", "tcp:host=localhost", "refused MissingPort\n", 1),
+        ("address", "unix:path=/a b", "refused BadEscape\n", 1),
+        ("address", "unix:path=/a,path=/b", "ok unix:path=/b\n", 0),
+        (
+            "address",
+            "nonce-tcp:host=localhost,port=4142,family=ipv6,noncefile=/a/file/path%20to%20file%201234",
+            "ok nonce-tcp:noncefile=/a/file/path%20to%20file%201234,host=localhost,port=4142,family=ipv6\n",
+            0,
+        ),
+    ];
+    for (kind, text, line, wanted) in rows {
+        let (sink, status) = outcome(rt.alloc(), &["check", kind, text], b"", &[1], 200)?;
+        assert_eq!(rt; sink.bytes(), line.as_bytes(), "{kind} {text}");
+        assert_eq!(rt; status, wanted, "{kind} {text}");
+    }
     Ok(())
 }

@@ -1,12 +1,69 @@
-use Rattle.std.proofs.Common.{◌≡◌, inl, inr, refl, sym, rules, Ok, map}
+use Rattle.std.proofs.Common.{◌≡◌, ◌∙◌, true, false, inl, refl, sym, ap, map, Ok}
 use Rattle.std.specs.String.{string_bytes}
-use Rattle.bus_script.specs.Script.{Script, script}
-use Rattle.bus_peers.specs.Reading.{IsOf}
+use Rattle.bus_script.specs.Printed.{printed}
 use Rattle.bus_open.specs.Commands.{asked}
-use Rattle.bus_open.specs.declared.command.Command.TheVariants.{Play}
+use Rattle.bus_open.specs.Run.{all_open, played, checked}
+use Rattle.bus_open.specs.declared.command.Command.TheVariants.{Play, Check}
 use Rattle.bus_open.proofs.Cuts.{keeps_same}
-use Rattle.bus_open.proofs.Following.{plays, reads, poller-fails, runs-out}
 use Rattle.bus_open.proofs.program.run.Goals as goal
+
+pub returns-in-Ok-Play-clause-well : goal.returns-in-Ok-Play-clause-well
+returns-in-Ok-Play-clause-well g c = λ zero.
+    let is_asked : asked (map string_bytes c.args.words.now) ≡ Ok Play = sym c.asked.ensures.answer ∙ (c.in-Ok-Play.is ∙ ap Ok c.in-Ok-Play.field-0-is) in
+    let came = c.play.ensures.opened zero in (
+      printed came.0 came.1,
+      played came.0 came.1 true (printed came.0 came.1) is_asked came.2 (sym came.3) refl,
+      came.4,
+    )
+
+pub returns-in-Ok-Play-clause-other : goal.returns-in-Ok-Play-clause-other
+returns-in-Ok-Play-clause-other g c = λ one.
+    let is_asked : asked (map string_bytes c.args.words.now) ≡ Ok Play = sym c.asked.ensures.answer ∙ (c.in-Ok-Play.is ∙ ap Ok c.in-Ok-Play.field-0-is) in
+    let came = c.play.ensures.other one in (
+      printed came.0 came.1,
+      played came.0 came.1 false (printed came.0 came.1) is_asked came.2 (sym came.3) refl,
+      came.4,
+    )
+
+pub returns-in-Ok-Play-clause-write_fault : goal.returns-in-Ok-Play-clause-write_fault
+returns-in-Ok-Play-clause-write_fault g c = λ four.
+    let is_asked : asked (map string_bytes c.args.words.now) ≡ Ok Play = sym c.asked.ensures.answer ∙ (c.in-Ok-Play.is ∙ ap Ok c.in-Ok-Play.field-0-is) in
+    let came = c.play.ensures.write_fault four in (
+      all_open came.0,
+      printed came.0 came.1,
+      played came.0 came.1 (all_open came.0) (printed came.0 came.1) is_asked came.2 refl refl,
+      came.3,
+      came.4,
+    )
+
+pub returns-in-Ok-Check-clause-well : goal.returns-in-Ok-Check-clause-well
+returns-in-Ok-Check-clause-well g c = λ zero.
+    let is_asked : asked (map string_bytes c.args.words.now) ≡ Ok (Check c.in-Ok-Check.kind) = sym c.asked.ensures.answer ∙ (c.in-Ok-Check.is ∙ ap Ok c.in-Ok-Check.field-0-is) in
+    let came = c.check_text.ensures.accepted zero in (
+      came.0,
+      checked c.in-Ok-Check.kind true came.0 is_asked (keeps_same (g.S.Source.left c.args.source.now)) (rw c.checked_text.ensures at came.1),
+      came.2,
+    )
+
+pub returns-in-Ok-Check-clause-other : goal.returns-in-Ok-Check-clause-other
+returns-in-Ok-Check-clause-other g c = λ one.
+    let is_asked : asked (map string_bytes c.args.words.now) ≡ Ok (Check c.in-Ok-Check.kind) = sym c.asked.ensures.answer ∙ (c.in-Ok-Check.is ∙ ap Ok c.in-Ok-Check.field-0-is) in
+    let came = c.check_text.ensures.refused one in (
+      came.0,
+      checked c.in-Ok-Check.kind false came.0 is_asked (keeps_same (g.S.Source.left c.args.source.now)) (rw c.checked_text.ensures at came.1),
+      came.2,
+    )
+
+pub returns-in-Ok-Check-clause-write_fault : goal.returns-in-Ok-Check-clause-write_fault
+returns-in-Ok-Check-clause-write_fault g c = λ four.
+    let is_asked : asked (map string_bytes c.args.words.now) ≡ Ok (Check c.in-Ok-Check.kind) = sym c.asked.ensures.answer ∙ (c.in-Ok-Check.is ∙ ap Ok c.in-Ok-Check.field-0-is) in
+    let came = c.check_text.ensures.failed four in (
+      came.0,
+      came.1,
+      checked c.in-Ok-Check.kind came.0 came.1 is_asked (keeps_same (g.S.Source.left c.args.source.now)) (rw c.checked_text.ensures at came.2),
+      came.3,
+      came.4,
+    )
 
 pub returns-in-Err-clause-refused : goal.returns-in-Err-clause-refused
 returns-in-Err-clause-refused g c = λ two. (
@@ -14,66 +71,3 @@ returns-in-Err-clause-refused g c = λ two. (
   inl (keeps_same (g.S.Source.left c.args.source.now), refl, sym c.in-Err.ensures.answer),
   c.refuse.ensures.text two,
 )
-
-pub returns-in-Ok-from_script-clause-opened : goal.returns-in-Ok-from_script-clause-opened
-returns-in-Ok-from_script-clause-opened g c = λ zero.
-    let is_asked : asked (map string_bytes c.args.words.now) ≡ Ok Play = search rules in
-    let came = c.perform.ensures.opened zero in (
-      came.0,
-      came.1,
-      plays (map string_bytes c.args.words.now) (g.S.Source.left c.args.source.now) (g.S.Source.left c.read_all.new.source) c.in-Ok.text.items c.in-Ok-from_script.played came.0 came.1 is_asked c.in-Ok.ensures.bytes c.in-Ok.ensures.end (rw (← c.as_slice.ensures.value) c.in-Ok-from_script.ensures.script) came.2,
-      came.3,
-      came.4,
-    )
-
-pub returns-in-Ok-from_script-clause-other : goal.returns-in-Ok-from_script-clause-other
-returns-in-Ok-from_script-clause-other g c = λ one.
-    let is_asked : asked (map string_bytes c.args.words.now) ≡ Ok Play = search rules in
-    let came = c.perform.ensures.other one in (
-      came.0,
-      came.1,
-      plays (map string_bytes c.args.words.now) (g.S.Source.left c.args.source.now) (g.S.Source.left c.read_all.new.source) c.in-Ok.text.items c.in-Ok-from_script.played came.0 came.1 is_asked c.in-Ok.ensures.bytes c.in-Ok.ensures.end (rw (← c.as_slice.ensures.value) c.in-Ok-from_script.ensures.script) came.2,
-      came.3,
-      came.4,
-    )
-
-pub returns-in-Ok-from_script-clause-write_fault : goal.returns-in-Ok-from_script-clause-write_fault
-returns-in-Ok-from_script-clause-write_fault g c = λ four.
-    let is_asked : asked (map string_bytes c.args.words.now) ≡ Ok Play = search rules in
-    let came = c.perform.ensures.failed four in (
-      came.0,
-      came.1,
-      plays (map string_bytes c.args.words.now) (g.S.Source.left c.args.source.now) (g.S.Source.left c.read_all.new.source) c.in-Ok.text.items c.in-Ok-from_script.played came.0 came.1 is_asked c.in-Ok.ensures.bytes c.in-Ok.ensures.end (rw (← c.as_slice.ensures.value) c.in-Ok-from_script.ensures.script) came.2,
-      came.3,
-      came.4,
-    )
-
-pub returns-in-Err-Refused-clause-refused : goal.returns-in-Err-Refused-clause-refused
-returns-in-Err-Refused-clause-refused g c = λ two.
-    let is_asked : asked (map string_bytes c.args.words.now) ≡ Ok Play = search rules in (
-      record { line = c.in-Err-Refused.line; reason = c.in-Err-Refused.reason },
-      inr (is_asked, (c.in-Ok.text.items, record { taken = c.in-Ok.ensures.bytes; whole = c.in-Ok.ensures.end }, rw (← c.as_slice.ensures.value) (rw c.in-Err-Refused.field-0-is at c.in-Err-Refused.ensures.refused))),
-      c.refuse-in-Err-Refused.ensures.text two,
-    )
-
-pub returns-in-Ok-from_script-clause-poller : goal.returns-in-Ok-from_script-clause-poller
-returns-in-Ok-from_script-clause-poller g c = λ six.
-    let is_asked : asked (map string_bytes c.args.words.now) ≡ Ok Play = search rules in
-    let fails = c.perform.ensures.poller six in
-    let from : (s : Script) × (script c.in-Ok.text.items ≡ Ok s) × IsOf s c.in-Ok-from_script.played = rw (← c.as_slice.ensures.value) c.in-Ok-from_script.ensures.script in (
-      from.0,
-      reads (map string_bytes c.args.words.now) (g.S.Source.left c.args.source.now) (g.S.Source.left c.read_all.new.source) c.in-Ok.text.items from.0 is_asked c.in-Ok.ensures.bytes c.in-Ok.ensures.end from.1,
-      poller-fails from.0 c.in-Ok-from_script.played from.2 fails.0,
-      fails.1,
-    )
-
-pub returns-in-Ok-from_script-clause-exhausted : goal.returns-in-Ok-from_script-clause-exhausted
-returns-in-Ok-from_script-clause-exhausted g c = λ seven.
-    let is_asked : asked (map string_bytes c.args.words.now) ≡ Ok Play = search rules in
-    let out = c.perform.ensures.exhausted seven in
-    let from : (s : Script) × (script c.in-Ok.text.items ≡ Ok s) × IsOf s c.in-Ok-from_script.played = rw (← c.as_slice.ensures.value) c.in-Ok-from_script.ensures.script in (
-      from.0,
-      reads (map string_bytes c.args.words.now) (g.S.Source.left c.args.source.now) (g.S.Source.left c.read_all.new.source) c.in-Ok.text.items from.0 is_asked c.in-Ok.ensures.bytes c.in-Ok.ensures.end from.1,
-      runs-out from.0 c.in-Ok-from_script.played from.2 out.0,
-      out.1,
-    )

@@ -1,4 +1,6 @@
 use Rattle.std.proofs.Common.{[], length, map, refl, ◌∙◌}
+use Rattle.react_core.specs.Outer.{keeps-same, keeps-then}
+use Rattle.react_core.specs.Outer as part
 use Rattle.react_core.specs.Told.{told-nothing}
 use Rattle.bus_peers.specs.Rounds.{removal_told}
 use Rattle.bus_peers.specs.Shown.{shown, tags}
@@ -14,7 +16,7 @@ loop-slot-init g c = record {
   told_so = told-nothing _;
   removals = ([], told-nothing _, refl);
   cause = refl;
-  origin = refl;
+  keeps = keeps-same part.Poller _;
 }
 
 pub remove_source-requires : goal.remove_source-requires
@@ -36,7 +38,7 @@ loop-slot-preserved g c =
           c.loop-slot.invariant.told_so c.remove_source.ensures.told;
       removals = removals-more _ _ _ c.loop-slot.invariant.removals c.remove_source.ensures.removals;
       cause = counted-both c.loop-slot.answer c.remove_source.result c.and-answer.result _ _ _ c.and-answer.ensures c.loop-slot.invariant.cause c.remove_source.ensures.cause;
-      origin = c.remove_source.ensures.origin ∙ c.loop-slot.invariant.origin;
+      keeps = keeps-then part.Poller _ _ _ c.loop-slot.invariant.keeps c.remove_source.ensures.keeps;
     }
 
 pub returns-clause-reactor : goal.returns-clause-reactor

@@ -1,6 +1,8 @@
 use Rattle.std.proofs.Common.{◌≡◌, List, length, map, true, OnOk}
 use Rattle.std.specs.List.{list_all}
 use Rattle.react_core.specs.declared.outside.Event.{Event}
+use Rattle.react_core.specs.Outer.{Keeps}
+use Rattle.react_core.specs.Outer as part
 use Rattle.react_core.specs.Told.{told}
 use Rattle.bus_peers.specs.Headline.{is_delete}
 use Rattle.bus_peers.specs.Settled.{closing}
@@ -14,8 +16,8 @@ invariant-loop-slot g l = record {
   same : l.slot-items ≡ l.fn.slots.items;
   reactor : l.reactor ≡ with_sources l.fn.reactor l.reactor.core.sources;
   left : Left l.slot-index (length l.fn.slots.items) (tags l.fn.reactor.core.sources) (tags l.reactor.core.sources);
-  told_so : OnOk l.answer (g.R.Tells.events l.registrar ≡ told (g.R.Tells.events l.fn.registrar) (closing l.slot-index 0 (map shown l.fn.reactor.core.sources)));
-  removals : (more : List Event) × (g.R.Tells.events l.registrar ≡ told (g.R.Tells.events l.fn.registrar) more) × (list_all is_delete more ≡ true);
-  cause : VisitCounted l.answer (g.R.Tells.poller_faults l.fn.registrar) (g.R.Tells.poller_faults l.registrar);
-  origin : g.R.Tells.origin l.registrar ≡ g.R.Tells.origin l.fn.registrar;
+  told_so : OnOk l.answer ((g.R.Tells.outer l.registrar).events ≡ told ((g.R.Tells.outer l.fn.registrar).events) (closing l.slot-index 0 (map shown l.fn.reactor.core.sources)));
+  removals : (more : List Event) × ((g.R.Tells.outer l.registrar).events ≡ told ((g.R.Tells.outer l.fn.registrar).events) more) × (list_all is_delete more ≡ true);
+  cause : VisitCounted l.answer ((g.R.Tells.outer l.fn.registrar).poller_faults) ((g.R.Tells.outer l.registrar).poller_faults);
+  keeps : Keeps part.Poller (g.R.Tells.outer l.fn.registrar) (g.R.Tells.outer l.registrar);
 }

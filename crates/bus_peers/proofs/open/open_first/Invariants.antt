@@ -1,4 +1,7 @@
 use Rattle.std.proofs.Common.{◌≡◌, ◌≤◌, ◌-◌, ℕ, length, vec_capacity}
+use Rattle.react_core.specs.Outer.{Keeps}
+use Rattle.react_core.specs.Outer as part
+use Rattle.bus_peers.specs.Faults.{AllCounted}
 use Rattle.bus_peers.specs.Settled.{counting}
 use Rattle.bus_peers.specs.Shown.{tags}
 use Rattle.bus_peers.specs.Slots.{Owned, AllOpen, Went}
@@ -10,10 +13,12 @@ invariant-loop-session g l = record {
   wire : l.wire ≡ l.session-index;
   len : length l.slots.items ≡ l.session-index;
   room : length l.session-items ≤ vec_capacity l.slots;
-  went : (rounds : ℕ) → Went l.session-items rounds (counting (length l.session-items - l.session-index) l.session-index) 0 l.fn.reactor.core (g.O.Tells.events l.fn.outside) (g.O.Tells.events l.outside) l.reactor.core l.slots.items;
+  went : (rounds : ℕ) → Went l.session-items rounds (counting (length l.session-items - l.session-index) l.session-index) 0 l.fn.reactor.core ((g.O.Tells.outer l.fn.outside).events) ((g.O.Tells.outer l.outside).events) l.reactor.core l.slots.items;
   stands : AllOpen l.slots.items;
   owned : Owned l.slots.items (tags l.reactor.core.sources);
-  poller : g.O.Tells.poller_faults l.outside ≡ g.O.Tells.poller_faults l.fn.outside;
-  origin : g.O.Tells.origin l.outside ≡ g.O.Tells.origin l.fn.outside;
+  poller : (g.O.Tells.outer l.outside).poller_faults ≡ (g.O.Tells.outer l.fn.outside).poller_faults;
+  timers : l.reactor.core.made ≡ l.fn.reactor.core.made;
+  keeps : Keeps part.All (g.O.Tells.outer l.fn.outside) (g.O.Tells.outer l.outside);
+  counted : AllCounted 0 l.slots.items (g.O.Tells.outer l.fn.outside) (g.O.Tells.outer l.outside);
   reports : l.reactor.events ≡ l.fn.reactor.events;
 }

@@ -1,30 +1,51 @@
 use Rattle.bus_peers.proofs.OpenLemmas.{rested-kept, answers-none, answers-refused, answers-unremoved, answers-opened}
+use Rattle.react_core.specs.Outer.{keeps-same, keeps-then, poller-in-all}
+use Rattle.react_core.specs.Outer as part
+use Rattle.bus_peers.proofs.Firsts.{if-ok}
+use Rattle.bus_peers.proofs.FrameLemmas.{all-later, all-ended}
 use Rattle.bus_peers.proofs.open.open_over.Goals as goal
 
 pub returns-in_err-slots-clause-opened : goal.returns-in_err-slots-clause-opened
 returns-in_err-slots-clause-opened g c =
-    answers-none (λ endeds. endeds.items) c.from_residual.result c.args.sessions.now.items c.args.rounds (g.O.Tells.events c.args.outside.now) c.args.reactor.now.core c.from_residual.ensures.1
+    answers-none (λ endeds. endeds.items) c.from_residual.result c.args.sessions.now.items c.args.rounds ((g.O.Tells.outer c.args.outside.now).events) c.args.reactor.now.core c.from_residual.ensures.1
 
 pub returns-in_err-opened-clause-opened : goal.returns-in_err-opened-clause-opened
 returns-in_err-opened-clause-opened g c =
-    answers-refused (λ endeds. endeds.items) c.from_residual-in_err-opened.result c.in_err-opened.field-0.0 c.args.sessions.now.items c.args.rounds (g.O.Tells.events c.args.outside.now) (g.O.Tells.events c.open_rounds-opened.new.outside)
-    (g.O.Tells.events c.remove_sources-removed.new.registrar) c.args.reactor.now.core c.open_rounds-opened.new.reactor c.remove_sources-removed.new.reactor c.open_rounds-opened.new.slots.items c.from_residual-in_err-opened.ensures.1
+    answers-refused (λ endeds. endeds.items) c.from_residual-in_err-opened.result c.in_err-opened.field-0.0 c.args.sessions.now.items c.args.rounds ((g.O.Tells.outer c.args.outside.now).events) ((g.O.Tells.outer c.open_rounds-opened.new.outside).events)
+    ((g.O.Tells.outer c.remove_sources-removed.new.registrar).events) c.args.reactor.now.core c.open_rounds-opened.new.reactor c.remove_sources-removed.new.reactor c.open_rounds-opened.new.slots.items c.from_residual-in_err-opened.ensures.1
     c.in_err-opened.ensures.halted c.in_err-opened.ensures.refused c.remove_sources-removed.ensures.reactor c.remove_sources-removed.ensures.removals
 
 pub returns-in_err-removed-clause-opened : goal.returns-in_err-removed-clause-opened
 returns-in_err-removed-clause-opened g c =
-    answers-unremoved (λ endeds. endeds.items) c.from_residual-in_err-removed.result c.in_err-removed.field-0.0 c.args.sessions.now.items c.args.rounds (g.O.Tells.events c.args.outside.now) (g.O.Tells.events c.open_rounds-opened.new.outside)
-    (g.O.Tells.events c.remove_sources-removed.new.registrar) c.args.reactor.now.core c.open_rounds-opened.new.reactor c.remove_sources-removed.new.reactor c.open_rounds-opened.new.slots.items
-    (g.O.Tells.poller_faults c.open_rounds-opened.new.outside) (g.O.Tells.poller_faults c.remove_sources-removed.new.registrar) c.from_residual-in_err-removed.ensures.1
+    answers-unremoved (λ endeds. endeds.items) c.from_residual-in_err-removed.result c.in_err-removed.field-0.0 c.args.sessions.now.items c.args.rounds ((g.O.Tells.outer c.args.outside.now).events) ((g.O.Tells.outer c.open_rounds-opened.new.outside).events)
+    ((g.O.Tells.outer c.remove_sources-removed.new.registrar).events) c.args.reactor.now.core c.open_rounds-opened.new.reactor c.remove_sources-removed.new.reactor c.open_rounds-opened.new.slots.items
+    ((g.O.Tells.outer c.open_rounds-opened.new.outside).poller_faults) ((g.O.Tells.outer c.remove_sources-removed.new.registrar).poller_faults) c.from_residual-in_err-removed.ensures.1
     c.in_ok-opened.ensures.rested c.in_err-removed.ensures.cause c.remove_sources-removed.ensures.reactor c.remove_sources-removed.ensures.removals
 
 pub endeds_in-requires-clause-kept : goal.endeds_in-requires-clause-kept
 endeds_in-requires-clause-kept g c =
-    rested-kept c.args.sessions.now.items c.args.rounds c.args.reactor.now.core (g.O.Tells.events c.args.outside.now) (g.O.Tells.events c.open_rounds-opened.new.outside) c.open_rounds-opened.new.reactor.core c.open_rounds-opened.new.slots.items
+    rested-kept c.args.sessions.now.items c.args.rounds c.args.reactor.now.core ((g.O.Tells.outer c.args.outside.now).events) ((g.O.Tells.outer c.open_rounds-opened.new.outside).events) c.open_rounds-opened.new.reactor.core c.open_rounds-opened.new.slots.items
     c.in_ok-opened.ensures.rested
 
 pub returns-clause-opened : goal.returns-clause-opened
 returns-clause-opened g c =
-    answers-opened (λ endeds. endeds.items) c.endeds_in.result c.args.sessions.now.items c.args.rounds (g.O.Tells.events c.args.outside.now) (g.O.Tells.events c.open_rounds-opened.new.outside) (g.O.Tells.events c.remove_sources-removed.new.registrar)
+    answers-opened (λ endeds. endeds.items) c.endeds_in.result c.args.sessions.now.items c.args.rounds ((g.O.Tells.outer c.args.outside.now).events) ((g.O.Tells.outer c.open_rounds-opened.new.outside).events) ((g.O.Tells.outer c.remove_sources-removed.new.registrar).events)
     c.args.reactor.now.core c.open_rounds-opened.new.reactor c.remove_sources-removed.new.reactor c.open_rounds-opened.new.slots.items c.in_ok-opened.ensures.len c.in_ok-opened.ensures.rested c.remove_sources-removed.ensures.reactor
     c.in_ok-removed.ensures.told c.endeds_in.ensures.ended c.endeds_in.ensures.err
+
+pub returns-in_err-slots-clause-keeps : goal.returns-in_err-slots-clause-keeps
+returns-in_err-slots-clause-keeps g c = keeps-same part.All _
+
+pub returns-in_err-opened-clause-keeps : goal.returns-in_err-opened-clause-keeps
+returns-in_err-opened-clause-keeps g c = keeps-then part.All _ _ _ c.open_rounds-opened.ensures.keeps (poller-in-all _ _ c.remove_sources-removed.ensures.keeps)
+
+pub returns-in_err-removed-clause-keeps : goal.returns-in_err-removed-clause-keeps
+returns-in_err-removed-clause-keeps g c = keeps-then part.All _ _ _ c.open_rounds-opened.ensures.keeps (poller-in-all _ _ c.remove_sources-removed.ensures.keeps)
+
+pub returns-clause-keeps : goal.returns-clause-keeps
+returns-clause-keeps g c = keeps-then part.All _ _ _ c.open_rounds-opened.ensures.keeps (poller-in-all _ _ c.remove_sources-removed.ensures.keeps)
+
+pub returns-clause-faults : goal.returns-clause-faults
+returns-clause-faults g c = if-ok c.endeds_in.result
+    (λ endeds ends. all-ended 0 c.open_rounds-opened.new.slots.items endeds.items _ _ ends
+    (all-later 0 c.open_rounds-opened.new.slots.items _ _ _ (poller-in-all _ _ c.remove_sources-removed.ensures.keeps) c.in_ok-opened.ensures.counted)) c.endeds_in.ensures.ended

@@ -2,8 +2,11 @@ use Rattle.std.proofs.Common.{◌≡◌, ℕ, List, Option, sym, subst}
 use Rattle.std.proofs.lemmas.Result.{on_ok_weaker}
 use Rattle.react_core.specs.declared.outside.Event.{Event}
 use Rattle.react_core.specs.Core.{Core}
-use Rattle.react_core.specs.Round.{Round}
+use Rattle.bus_peers.specs.RoundEvents.{Round}
 use Rattle.bus_peers.specs.Rounds.{Rounded}
+use Rattle.react_core.specs.Outer.{keeps-then, round-in-all}
+use Rattle.react_core.specs.Outer as part
+use Rattle.bus_peers.proofs.FrameLemmas.{counts-same, counts-then}
 use Rattle.bus_peers.proofs.SlotLemmas.{refuses-more, told-both}
 use Rattle.bus_peers.proofs.GoingLemmas.{going-round, round-told, round-wires}
 use Rattle.bus_peers.proofs.rounds.go_round.Goals as goal
@@ -12,19 +15,30 @@ seen : (r0 r1 : Option (List Event)) (old new : Core) (wires woken : List ℕ) �
 seen r0 r1 old new wires woken same x = let P : List ℕ → Type 0 = λ w. (r : Round) × Rounded r0 r1 old new w r in subst P (sym same) x
 
 pub visit_woken-requires-clause-registered : goal.visit_woken-requires-clause-registered
-visit_woken-requires-clause-registered g c = round-wires (g.O.Tells.events c.args.outside.now) (g.O.Tells.events c.round.new.outside) c.args.reactor.now.core c.round.new.reactor.core c.as_slice.result.now (seen (g.O.Tells.events c.args.outside.now) (g.O.Tells.events c.round.new.outside) c.args.reactor.now.core c.round.new.reactor.core c.as_slice.result.now c.in_ok-woken.woken.items c.as_slice.ensures.value c.in_ok-woken.ensures.rounded) c.in_ok-woken.ensures.tags
+visit_woken-requires-clause-registered g c = round-wires ((g.O.Tells.outer c.args.outside.now).events) ((g.O.Tells.outer c.round.new.outside).events) c.args.reactor.now.core c.round.new.reactor.core c.as_slice.result.now (seen ((g.O.Tells.outer c.args.outside.now).events) ((g.O.Tells.outer c.round.new.outside).events) c.args.reactor.now.core c.round.new.reactor.core c.as_slice.result.now c.in_ok-woken.woken.items c.as_slice.ensures.value c.in_ok-woken.ensures.rounded) c.in_ok-woken.ensures.tags
 
 pub returns-clause-went : goal.returns-clause-went
 returns-clause-went g c =
-    on_ok_weaker c.visit_woken.result (λ went. going-round (g.O.Tells.events c.args.outside.now) (g.O.Tells.events c.round.new.outside) (g.O.Tells.events c.visit_woken.new.outside) c.args.reactor.now.core c.round.new.reactor.core c.visit_woken.new.reactor.core c.args.slots.now.items c.visit_woken.new.slots.items c.as_slice.result.now
-    (seen (g.O.Tells.events c.args.outside.now) (g.O.Tells.events c.round.new.outside) c.args.reactor.now.core c.round.new.reactor.core c.as_slice.result.now c.in_ok-woken.woken.items c.as_slice.ensures.value c.in_ok-woken.ensures.rounded) went) c.visit_woken.ensures.went
+    on_ok_weaker c.visit_woken.result (λ went. going-round ((g.O.Tells.outer c.args.outside.now).events) ((g.O.Tells.outer c.round.new.outside).events) ((g.O.Tells.outer c.visit_woken.new.outside).events) c.args.reactor.now.core c.round.new.reactor.core c.visit_woken.new.reactor.core c.args.slots.now.items c.visit_woken.new.slots.items c.as_slice.result.now
+    (seen ((g.O.Tells.outer c.args.outside.now).events) ((g.O.Tells.outer c.round.new.outside).events) c.args.reactor.now.core c.round.new.reactor.core c.as_slice.result.now c.in_ok-woken.woken.items c.as_slice.ensures.value c.in_ok-woken.ensures.rounded) went) c.visit_woken.ensures.went
 
 pub returns-clause-told : goal.returns-clause-told
 returns-clause-told g c =
-    on_ok_weaker c.visit_woken.result (λ told. told-both (g.O.Tells.events c.args.outside.now) (g.O.Tells.events c.round.new.outside) (g.O.Tells.events c.visit_woken.new.outside) c.args.reactor.now.core c.round.new.reactor.core c.visit_woken.new.reactor.core
-    (round-told (g.O.Tells.events c.args.outside.now) (g.O.Tells.events c.round.new.outside) c.args.reactor.now.core c.round.new.reactor.core c.as_slice.result.now (seen (g.O.Tells.events c.args.outside.now) (g.O.Tells.events c.round.new.outside) c.args.reactor.now.core c.round.new.reactor.core c.as_slice.result.now c.in_ok-woken.woken.items c.as_slice.ensures.value c.in_ok-woken.ensures.rounded)) told) c.visit_woken.ensures.told
+    on_ok_weaker c.visit_woken.result (λ told. told-both ((g.O.Tells.outer c.args.outside.now).events) ((g.O.Tells.outer c.round.new.outside).events) ((g.O.Tells.outer c.visit_woken.new.outside).events) c.args.reactor.now.core c.round.new.reactor.core c.visit_woken.new.reactor.core
+    (round-told ((g.O.Tells.outer c.args.outside.now).events) ((g.O.Tells.outer c.round.new.outside).events) c.args.reactor.now.core c.round.new.reactor.core c.as_slice.result.now (seen ((g.O.Tells.outer c.args.outside.now).events) ((g.O.Tells.outer c.round.new.outside).events) c.args.reactor.now.core c.round.new.reactor.core c.as_slice.result.now c.in_ok-woken.woken.items c.as_slice.ensures.value c.in_ok-woken.ensures.rounded)) told) c.visit_woken.ensures.told
 
 pub returns-clause-refused : goal.returns-clause-refused
 returns-clause-refused g c =
-    refuses-more c.visit_woken.result (g.O.Tells.events c.args.outside.now) (g.O.Tells.events c.round.new.outside) (g.O.Tells.events c.visit_woken.new.outside) c.args.reactor.now.core c.round.new.reactor.core c.visit_woken.new.reactor.core
-    (round-told (g.O.Tells.events c.args.outside.now) (g.O.Tells.events c.round.new.outside) c.args.reactor.now.core c.round.new.reactor.core c.as_slice.result.now (seen (g.O.Tells.events c.args.outside.now) (g.O.Tells.events c.round.new.outside) c.args.reactor.now.core c.round.new.reactor.core c.as_slice.result.now c.in_ok-woken.woken.items c.as_slice.ensures.value c.in_ok-woken.ensures.rounded)) c.visit_woken.ensures.refused
+    refuses-more c.visit_woken.result ((g.O.Tells.outer c.args.outside.now).events) ((g.O.Tells.outer c.round.new.outside).events) ((g.O.Tells.outer c.visit_woken.new.outside).events) c.args.reactor.now.core c.round.new.reactor.core c.visit_woken.new.reactor.core
+    (round-told ((g.O.Tells.outer c.args.outside.now).events) ((g.O.Tells.outer c.round.new.outside).events) c.args.reactor.now.core c.round.new.reactor.core c.as_slice.result.now (seen ((g.O.Tells.outer c.args.outside.now).events) ((g.O.Tells.outer c.round.new.outside).events) c.args.reactor.now.core c.round.new.reactor.core c.as_slice.result.now c.in_ok-woken.woken.items c.as_slice.ensures.value c.in_ok-woken.ensures.rounded)) c.visit_woken.ensures.refused
+
+pub returns-in_err-woken-clause-keeps : goal.returns-in_err-woken-clause-keeps
+returns-in_err-woken-clause-keeps g c = round-in-all _ _ c.round.ensures.keeps
+
+pub returns-clause-keeps : goal.returns-clause-keeps
+returns-clause-keeps g c = keeps-then part.All _ _ _ (round-in-all _ _ c.round.ensures.keeps) c.visit_woken.ensures.keeps
+
+pub returns-clause-counted : goal.returns-clause-counted
+returns-clause-counted g c =
+    on_ok_weaker c.visit_woken.result (λ counted. counts-then c.args.slots.now.items c.args.slots.now.items c.visit_woken.new.slots.items _ _ _ (round-in-all _ _ c.round.ensures.keeps)
+    (counts-same c.args.slots.now.items _ _ (round-in-all _ _ c.round.ensures.keeps)) counted) c.visit_woken.ensures.counted

@@ -1,5 +1,8 @@
 use Rattle.std.proofs.Common.{◌≡◌, ◌≤◌, ◌-◌, List, length}
 use Rattle.react_core.specs.declared.outside.Event.{Event}
+use Rattle.react_core.specs.Outer.{Keeps}
+use Rattle.react_core.specs.Outer as part
+use Rattle.bus_peers.specs.Faults.{CountsOn}
 use Rattle.bus_peers.specs.Shown.{Rests, tags}
 use Rattle.bus_peers.specs.Slots.{Owned, AllOpen, Told}
 use Rattle.bus_peers.proofs.GoingLemmas.{GoesOnTo}
@@ -8,14 +11,16 @@ use Rattle.bus_peers.proofs.rounds.go_rounds.Given as goal
 abbrev pub invariant-loop-done : goal.invariant-loop-done
 invariant-loop-done g l = record {
   few : l.done ≤ l.rounds;
-  went : GoesOnTo l.rounds l.done (g.O.Tells.events l.fn.outside) (g.O.Tells.events l.outside) l.fn.reactor.core l.reactor.core l.fn.slots.items l.slots.items;
+  went : GoesOnTo l.rounds l.done ((g.O.Tells.outer l.fn.outside).events) ((g.O.Tells.outer l.outside).events) l.fn.reactor.core l.reactor.core l.fn.slots.items l.slots.items;
   rests : Rests l.reactor.core;
   stands : AllOpen l.slots.items;
   owned : Owned l.slots.items (tags l.reactor.core.sources);
   len : length l.slots.items ≡ length l.fn.slots.items;
-  told : (more : List Event) × Told (g.O.Tells.events l.fn.outside) (g.O.Tells.events l.outside) l.fn.reactor.core l.reactor.core more;
-  poller : g.O.Tells.poller_faults l.outside ≡ g.O.Tells.poller_faults l.fn.outside;
-  origin : g.O.Tells.origin l.outside ≡ g.O.Tells.origin l.fn.outside;
+  told : (more : List Event) × Told ((g.O.Tells.outer l.fn.outside).events) ((g.O.Tells.outer l.outside).events) l.fn.reactor.core l.reactor.core more;
+  poller : (g.O.Tells.outer l.outside).poller_faults ≡ (g.O.Tells.outer l.fn.outside).poller_faults;
+  timers : l.reactor.core.made ≡ l.fn.reactor.core.made;
+  keeps : Keeps part.All (g.O.Tells.outer l.fn.outside) (g.O.Tells.outer l.outside);
+  counted : CountsOn l.fn.slots.items l.slots.items (g.O.Tells.outer l.fn.outside) (g.O.Tells.outer l.outside);
   reports : l.reactor.events ≡ l.fn.reactor.events;
 }
 

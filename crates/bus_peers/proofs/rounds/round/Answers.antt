@@ -1,4 +1,6 @@
 use Rattle.std.proofs.Common.{Result, Ok, Err, IfOk}
+use Rattle.bus_peers.proofs.Courses.{rounds-well}
+use Rattle.bus_peers.proofs.FrameLemmas.{core-steps-made}
 use Rattle.bus_peers.proofs.RoundLemmas.{rounded, round-tags, round-refused, refused-tags}
 use Rattle.bus_peers.proofs.rounds.round.Goals as goal
 
@@ -18,8 +20,18 @@ returns-in_err-react-clause-tags g c =
 
 pub returns-clause-rounded : goal.returns-clause-rounded
 returns-clause-rounded g c =
-    let (r, x) = c.in_ok-react.ensures.rounds in
-    if_ok _ _ c.in_order.result (λ woken ordered. (r, rounded _ _ c.args.reactor.now.core c.react.new.self.core _ c.react.new.wakes woken.items r x c.requires.rests c.keys_rise.ensures c.new.ensures.items ordered)) c.in_order.ensures.ordered
+    let (course, tries, ran) = c.in_ok-react.ensures.ran in
+    let (r, x) = rounds-well _ _ _ _ _ _ c.args.reactor.now c.react.new.self _ c.react.new.wakes course tries ran in
+    if_ok _ _ c.in_order.result (λ woken ordered. (r, rounded _ _ c.args.reactor.now.core c.react.new.self.core _ c.react.new.wakes woken.items r x c.requires.rests c.fits.ensures.rises c.new.ensures.items ordered)) c.in_order.ensures.ordered
 
 pub returns-clause-tags : goal.returns-clause-tags
-returns-clause-tags g c = let (r, x) = c.in_ok-react.ensures.rounds in round-tags _ _ _ _ c.args.reactor.now.core c.react.new.self.core _ _ r x
+returns-clause-tags g c =
+    let (course, tries, ran) = c.in_ok-react.ensures.ran in
+    let (r, x) = rounds-well _ _ _ _ _ _ c.args.reactor.now c.react.new.self _ c.react.new.wakes course tries ran in
+    round-tags _ _ _ _ c.args.reactor.now.core c.react.new.self.core _ _ r x
+
+pub returns-in_err-react-clause-timers : goal.returns-in_err-react-clause-timers
+returns-in_err-react-clause-timers g c = core-steps-made c.react.ensures.steps
+
+pub returns-clause-timers : goal.returns-clause-timers
+returns-clause-timers g c = core-steps-made c.react.ensures.steps

@@ -9,6 +9,9 @@ use Rattle.bus_peers.specs.Shown.{Tags, tag_at, tags, has_wire}
 use Rattle.bus_peers.specs.Slots.{Owned, AllOpen, is_open_slot, GoesFrom}
 use Rattle.bus_peers.proofs.TagLemmas.{has_wire-below, tag-held, other_wire-without}
 use Rattle.bus_peers.proofs.SlotLemmas.{test-at, test-set, set-set, owns-at, asleep-at, owned-refused, owned-stays, others-stay, open-stays, stays-told}
+use Rattle.react_core.specs.Outer.{visit-in-all}
+use Rattle.bus_peers.specs.Faults.{CountsOn}
+use Rattle.bus_peers.proofs.FrameLemmas.{counts-set, visit-made}
 use Rattle.bus_peers.proofs.GoingLemmas.{going-again}
 use Rattle.bus_peers.proofs.rounds.visit_slot.Goals as goal
 
@@ -69,14 +72,14 @@ pub returns-clause-went : goal.returns-clause-went
 returns-clause-went g c = λ pending.
     let at : slice_get c.args.slots.now.items c.args.wire ≡ Some (slot.Asleep c.in-Asleep.sleeper) =
     read c.args.wire c.args.slots.now.items (tags c.args.reactor.now.core.sources) (slot.Asleep c.in-Asleep.sleeper) c.index_mut.result.now c.requires.owned c.requires.registered c.in-Asleep.ensures.value c.index_mut.ensures.value in
-    let G : List Slot → Type 0 = λ x. GoesFrom (c.args.wire ∷ pending) pending (g.O.Tells.events c.args.outside.now) (g.O.Tells.events c.visit.new.outside) c.args.reactor.now.core c.visit.new.reactor.core c.args.slots.now.items x in
+    let G : List Slot → Type 0 = λ x. GoesFrom (c.args.wire ∷ pending) pending ((g.O.Tells.outer c.args.outside.now).events) ((g.O.Tells.outer c.visit.new.outside).events) c.args.reactor.now.core c.visit.new.reactor.core c.args.slots.now.items x in
     subst G (sym (set-set c.args.slots.now.items c.args.wire c.replace-slot.new.dest c.in_ok-slots.field-0))
-    (going-again c.args.wire pending (g.O.Tells.events c.args.outside.now) (g.O.Tells.events c.visit.new.outside) c.args.reactor.now.core c.visit.new.reactor.core c.args.slots.now.items c.in-Asleep.sleeper c.in_ok-slots.field-0
+    (going-again c.args.wire pending ((g.O.Tells.outer c.args.outside.now).events) ((g.O.Tells.outer c.visit.new.outside).events) c.args.reactor.now.core c.visit.new.reactor.core c.args.slots.now.items c.in-Asleep.sleeper c.in_ok-slots.field-0
     at c.in_ok-slots.ensures.visited)
 
 pub returns-clause-stands : goal.returns-clause-stands
 returns-clause-stands g c =
-    let up : is_open_slot c.in_ok-slots.field-0 ≡ true = open-stays c.args.wire c.in-Asleep.sleeper.key (g.O.Tells.events c.args.outside.now) (g.O.Tells.events c.visit.new.outside) c.args.reactor.now.core c.visit.new.reactor.core
+    let up : is_open_slot c.in_ok-slots.field-0 ≡ true = open-stays c.args.wire c.in-Asleep.sleeper.key ((g.O.Tells.outer c.args.outside.now).events) ((g.O.Tells.outer c.visit.new.outside).events) c.args.reactor.now.core c.visit.new.reactor.core
     c.in-Asleep.sleeper.client c.in_ok-slots.field-0 c.in_ok-slots.ensures.visited in
     ap (list_all is_open_slot) (set-set c.args.slots.now.items c.args.wire c.replace-slot.new.dest c.in_ok-slots.field-0) ∙ test-set is_open_slot c.args.slots.now.items c.args.wire c.in_ok-slots.field-0 c.requires.stands up
 
@@ -86,17 +89,35 @@ returns-clause-owned g c =
     read c.args.wire c.args.slots.now.items (tags c.args.reactor.now.core.sources) (slot.Asleep c.in-Asleep.sleeper) c.index_mut.result.now c.requires.owned c.requires.registered c.in-Asleep.ensures.value c.index_mut.ensures.value in
     let P : List Slot → Type 0 = λ x. Owned x (tags c.visit.new.reactor.core.sources) in
     subst P (sym (set-set c.args.slots.now.items c.args.wire c.replace-slot.new.dest c.in_ok-slots.field-0))
-    (owned-stays c.args.wire c.in-Asleep.sleeper.key (g.O.Tells.events c.args.outside.now) (g.O.Tells.events c.visit.new.outside) c.args.reactor.now.core c.visit.new.reactor.core c.in-Asleep.sleeper.client c.args.slots.now.items
+    (owned-stays c.args.wire c.in-Asleep.sleeper.key ((g.O.Tells.outer c.args.outside.now).events) ((g.O.Tells.outer c.visit.new.outside).events) c.args.reactor.now.core c.visit.new.reactor.core c.in-Asleep.sleeper.client c.args.slots.now.items
     c.in_ok-slots.field-0 c.requires.owned (tagged c.args.wire c.args.slots.now.items (tags c.args.reactor.now.core.sources) c.in-Asleep.sleeper c.requires.owned at) c.in_ok-slots.ensures.visited)
 
 pub returns-clause-others : goal.returns-clause-others
 returns-clause-others g c =
     let at : slice_get c.args.slots.now.items c.args.wire ≡ Some (slot.Asleep c.in-Asleep.sleeper) =
     read c.args.wire c.args.slots.now.items (tags c.args.reactor.now.core.sources) (slot.Asleep c.in-Asleep.sleeper) c.index_mut.result.now c.requires.owned c.requires.registered c.in-Asleep.ensures.value c.index_mut.ensures.value in
-    others-stay c.args.wire c.in-Asleep.sleeper.key (g.O.Tells.events c.args.outside.now) (g.O.Tells.events c.visit.new.outside) c.args.reactor.now.core c.visit.new.reactor.core c.in-Asleep.sleeper.client c.in_ok-slots.field-0
+    others-stay c.args.wire c.in-Asleep.sleeper.key ((g.O.Tells.outer c.args.outside.now).events) ((g.O.Tells.outer c.visit.new.outside).events) c.args.reactor.now.core c.visit.new.reactor.core c.in-Asleep.sleeper.client c.in_ok-slots.field-0
     (tagged c.args.wire c.args.slots.now.items (tags c.args.reactor.now.core.sources) c.in-Asleep.sleeper c.requires.owned at) c.in_ok-slots.ensures.visited
 
 pub returns-clause-told : goal.returns-clause-told
 returns-clause-told g c =
-    stays-told c.args.wire c.in-Asleep.sleeper.key (g.O.Tells.events c.args.outside.now) (g.O.Tells.events c.visit.new.outside) c.args.reactor.now.core c.visit.new.reactor.core c.in-Asleep.sleeper.client c.in_ok-slots.field-0
+    stays-told c.args.wire c.in-Asleep.sleeper.key ((g.O.Tells.outer c.args.outside.now).events) ((g.O.Tells.outer c.visit.new.outside).events) c.args.reactor.now.core c.visit.new.reactor.core c.in-Asleep.sleeper.client c.in_ok-slots.field-0
     c.in_ok-slots.ensures.visited
+
+pub returns-in_err-slots-clause-timers : goal.returns-in_err-slots-clause-timers
+returns-in_err-slots-clause-timers g c = visit-made c.visit.result _ _ _ _ _ _ _ _ c.visit.ensures.visited c.visit.ensures.refused
+
+pub returns-in_err-slots-clause-keeps : goal.returns-in_err-slots-clause-keeps
+returns-in_err-slots-clause-keeps g c = visit-in-all c.args.wire _ _ c.visit.ensures.keeps
+
+pub returns-clause-timers : goal.returns-clause-timers
+returns-clause-timers g c = visit-made c.visit.result _ _ _ _ _ _ _ _ c.visit.ensures.visited c.visit.ensures.refused
+
+pub returns-clause-keeps : goal.returns-clause-keeps
+returns-clause-keeps g c = visit-in-all c.args.wire _ _ c.visit.ensures.keeps
+
+pub returns-clause-counted : goal.returns-clause-counted
+returns-clause-counted g c =
+    let C : List Slot → Type 0 = λ x. CountsOn c.args.slots.now.items x (g.O.Tells.outer c.args.outside.now) (g.O.Tells.outer c.visit.new.outside) in
+    subst C (sym (set-set c.args.slots.now.items c.args.wire c.replace-slot.new.dest c.in_ok-slots.field-0))
+    (counts-set c.args.wire c.args.slots.now.items c.in_ok-slots.field-0 _ _ c.visit.ensures.keeps c.in_ok-slots.ensures.counted)

@@ -2,6 +2,9 @@ use Rattle.std.proofs.Common.{rules, ◌≡◌, ◌<◌, ◌+◌, ℕ, List, ◌
 use Rattle.std.proofs.lemmas.List.{drop_all}
 use Rattle.bus_peers.specs.Shown.{tags}
 use Rattle.bus_peers.specs.Slots.{Refuses}
+use Rattle.react_core.specs.Outer.{keeps-same, keeps-then}
+use Rattle.react_core.specs.Outer as part
+use Rattle.bus_peers.proofs.FrameLemmas.{counts-none, counts-then}
 use Rattle.bus_peers.proofs.SlotLemmas.{refuses-more, told-both, rise-next, have-rest, wire-below, goes-next, goes-all}
 use Rattle.bus_peers.proofs.rounds.visit_woken.Goals as goal
 
@@ -17,12 +20,12 @@ overflow_cast-wire g c =
 
 pub returns-in_err-visit_slot-clause-refused : goal.returns-in_err-visit_slot-clause-refused
 returns-in_err-visit_slot-clause-refused g c =
-    let here : Refuses c.from_residual.result (g.O.Tells.events c.loop-wire.outside) (g.O.Tells.events c.visit_slot.new.outside) c.loop-wire.reactor.core c.visit_slot.new.reactor.core = search rules in
-    refuses-more c.from_residual.result (g.O.Tells.events c.args.outside.now) (g.O.Tells.events c.loop-wire.outside) (g.O.Tells.events c.visit_slot.new.outside) c.args.reactor.now.core c.loop-wire.reactor.core c.visit_slot.new.reactor.core c.loop-wire.invariant.told here
+    let here : Refuses c.from_residual.result ((g.O.Tells.outer c.loop-wire.outside).events) ((g.O.Tells.outer c.visit_slot.new.outside).events) c.loop-wire.reactor.core c.visit_slot.new.reactor.core = search rules in
+    refuses-more c.from_residual.result ((g.O.Tells.outer c.args.outside.now).events) ((g.O.Tells.outer c.loop-wire.outside).events) ((g.O.Tells.outer c.visit_slot.new.outside).events) c.args.reactor.now.core c.loop-wire.reactor.core c.visit_slot.new.reactor.core c.loop-wire.invariant.told here
 
 pub loop-wire-preserved : goal.loop-wire-preserved
 loop-wire-preserved g c = record {
-  went = goes-next (slice_index_or c.args.woken.now c.loop-wire.wire-index 0) c.args.woken.now (drop c.loop-wire.wire-index c.args.woken.now) (drop (c.loop-wire.wire-index + 1) c.args.woken.now) (g.O.Tells.events c.args.outside.now) (g.O.Tells.events c.loop-wire.outside) (g.O.Tells.events c.visit_slot.new.outside) c.args.reactor.now.core c.loop-wire.reactor.core c.visit_slot.new.reactor.core
+  went = goes-next (slice_index_or c.args.woken.now c.loop-wire.wire-index 0) c.args.woken.now (drop c.loop-wire.wire-index c.args.woken.now) (drop (c.loop-wire.wire-index + 1) c.args.woken.now) ((g.O.Tells.outer c.args.outside.now).events) ((g.O.Tells.outer c.loop-wire.outside).events) ((g.O.Tells.outer c.visit_slot.new.outside).events) c.args.reactor.now.core c.loop-wire.reactor.core c.visit_slot.new.reactor.core
       c.args.slots.now.items c.loop-wire.slots.items c.visit_slot.new.slots.items (next c.args.woken.now c.loop-wire.wire-index c.loop-wire-test.true) c.loop-wire.invariant.went c.in_ok-visit_slot.ensures.went;
   rests = c.in_ok-visit_slot.ensures.rests;
   stands = c.in_ok-visit_slot.ensures.stands;
@@ -31,12 +34,20 @@ loop-wire-preserved g c = record {
   rise = rise-next (slice_index_or c.args.woken.now c.loop-wire.wire-index 0) (drop c.loop-wire.wire-index c.args.woken.now) (drop (c.loop-wire.wire-index + 1) c.args.woken.now) (next c.args.woken.now c.loop-wire.wire-index c.loop-wire-test.true) c.loop-wire.invariant.rise;
   registered = have-rest (slice_index_or c.args.woken.now c.loop-wire.wire-index 0) (drop c.loop-wire.wire-index c.args.woken.now) (drop (c.loop-wire.wire-index + 1) c.args.woken.now) (tags c.loop-wire.reactor.core.sources) (tags c.visit_slot.new.reactor.core.sources) (next c.args.woken.now c.loop-wire.wire-index c.loop-wire-test.true)
       c.loop-wire.invariant.rise c.in_ok-visit_slot.ensures.others c.loop-wire.invariant.registered;
-  told = told-both (g.O.Tells.events c.args.outside.now) (g.O.Tells.events c.loop-wire.outside) (g.O.Tells.events c.visit_slot.new.outside) c.args.reactor.now.core c.loop-wire.reactor.core c.visit_slot.new.reactor.core c.loop-wire.invariant.told c.in_ok-visit_slot.ensures.told;
+  told = told-both ((g.O.Tells.outer c.args.outside.now).events) ((g.O.Tells.outer c.loop-wire.outside).events) ((g.O.Tells.outer c.visit_slot.new.outside).events) c.args.reactor.now.core c.loop-wire.reactor.core c.visit_slot.new.reactor.core c.loop-wire.invariant.told c.in_ok-visit_slot.ensures.told;
   poller = c.in_ok-visit_slot.ensures.cause ∙ c.loop-wire.invariant.poller;
-  origin = c.in_ok-visit_slot.ensures.origin ∙ c.loop-wire.invariant.origin;
+  timers = c.visit_slot.ensures.timers ∙ c.loop-wire.invariant.timers;
+  keeps = keeps-then part.All _ _ _ c.loop-wire.invariant.keeps c.visit_slot.ensures.keeps;
+  counted = counts-then c.args.slots.now.items c.loop-wire.slots.items c.visit_slot.new.slots.items _ _ _ c.loop-wire.invariant.keeps c.loop-wire.invariant.counted c.in_ok-visit_slot.ensures.counted;
   reports = c.in_ok-visit_slot.ensures.reports ∙ c.loop-wire.invariant.reports;
 }
 
 pub returns-clause-went : goal.returns-clause-went
-returns-clause-went g c = goes-all c.args.woken.now (drop c.loop-wire.wire-index c.args.woken.now) (g.O.Tells.events c.args.outside.now) (g.O.Tells.events c.loop-wire.outside) c.args.reactor.now.core c.loop-wire.reactor.core c.args.slots.now.items c.loop-wire.slots.items
+returns-clause-went g c = goes-all c.args.woken.now (drop c.loop-wire.wire-index c.args.woken.now) ((g.O.Tells.outer c.args.outside.now).events) ((g.O.Tells.outer c.loop-wire.outside).events) c.args.reactor.now.core c.loop-wire.reactor.core c.args.slots.now.items c.loop-wire.slots.items
     (drop_all c.loop-wire.wire-index c.args.woken.now c.loop-wire-test.false) c.loop-wire.invariant.went
+
+pub returns-in_err-visit_slot-clause-keeps : goal.returns-in_err-visit_slot-clause-keeps
+returns-in_err-visit_slot-clause-keeps g c = keeps-then part.All _ _ _ c.loop-wire.invariant.keeps c.visit_slot.ensures.keeps
+
+pub loop-wire-init : goal.loop-wire-init
+loop-wire-init g c = search (rules, keeps-same, counts-none)

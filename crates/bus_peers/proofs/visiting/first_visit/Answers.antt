@@ -1,3 +1,7 @@
+use Rattle.std.proofs.Common.{ap, Ok}
+use Rattle.react_core.specs.Outer.{keeps-then}
+use Rattle.react_core.specs.Outer as part
+use Rattle.bus_peers.proofs.FrameLemmas.{keeps-dialled, slot-after, unconnected-counted}
 use Rattle.bus_peers.proofs.Firsts.{if-ok, refused-by, first-undialled, first-dialled, dialled-keeps}
 use Rattle.bus_peers.proofs.visiting.first_visit.Goals as goal
 
@@ -17,3 +21,19 @@ returns-in-Some-clause-refused g c =
 pub returns-in-None-clause-visited : goal.returns-in-None-clause-visited
 returns-in-None-clause-visited g c =
     first-undialled c.args.session.now c.args.wire c.in_ok-opened.field-0 _ _ c.args.reactor.now.core c.unconnected.result c.in_ok-opened.ensures.told c.in-None.is c.unconnected.ensures.value
+
+pub returns-in_err-opened-clause-keeps : goal.returns-in_err-opened-clause-keeps
+returns-in_err-opened-clause-keeps g c = keeps-dialled c.args.wire c.dial.result _ _ c.dial.ensures.keeps c.dial.ensures.dialled
+
+pub returns-in-Some-clause-keeps : goal.returns-in-Some-clause-keeps
+returns-in-Some-clause-keeps g c = keeps-then (part.Visit c.args.wire) _ _ _ (keeps-dialled c.args.wire c.dial.result _ _ c.dial.ensures.keeps c.dial.ensures.dialled) c.visit_opened.ensures.keeps
+
+pub returns-in-Some-clause-counted : goal.returns-in-Some-clause-counted
+returns-in-Some-clause-counted g c = if-ok c.visit_opened.result
+    (λ slot counted. slot-after c.args.wire slot _ _ _ (keeps-dialled c.args.wire c.dial.result _ _ c.dial.ensures.keeps c.dial.ensures.dialled) counted) c.visit_opened.ensures.counted
+
+pub returns-in-None-clause-keeps : goal.returns-in-None-clause-keeps
+returns-in-None-clause-keeps g c = keeps-dialled c.args.wire c.dial.result _ _ c.dial.ensures.keeps c.dial.ensures.dialled
+
+pub returns-in-None-clause-counted : goal.returns-in-None-clause-counted
+returns-in-None-clause-counted g c = unconnected-counted c.args.wire c.in_ok-opened.field-0 c.unconnected.result _ _ c.in-None.is (ap (λ e. e.ending) c.unconnected.ensures.value) c.in_ok-opened.ensures.dialled

@@ -1,10 +1,13 @@
 use Rattle.std.proofs.Common.{inl, inr, refl, ◌∙◌}
+use Rattle.react_core.specs.Outer.{keeps-same, keeps-then}
+use Rattle.react_core.specs.Outer as part
+use Rattle.bus_peers.proofs.FrameLemmas.{ending-within, rises-same, rises-visit}
 use Rattle.bus_peers.proofs.Turns.{on-err, turning-more, turning-keeps, turning-holds, turning-rests, turning-open}
 use Rattle.bus_peers.specs.declared.visiting.Turn.TheVariants as turn
 use Rattle.bus_peers.proofs.visiting.resume.Goals as goal
 
 pub loop-ending-init : goal.loop-ending-init
-loop-ending-init g c = record { turning = inl (refl, refl, refl); poller = refl; origin = refl; reports = refl }
+loop-ending-init g c = record { turning = inl (refl, refl, refl); poller = refl; keeps = keeps-same (part.Visit c.args.wire) _; reports = refl }
 
 pub take_turn-requires-clause-holds : goal.take_turn-requires-clause-holds
 take_turn-requires-clause-holds g c = turning-holds c.args.wire c.args.key _ _ c.args.reactor.now.core c.loop-ending.reactor.core c.args.client.now c.loop-ending.client c.requires.holds c.loop-ending.invariant.turning
@@ -35,6 +38,18 @@ loop-ending-preserved g c = record {
   turning = inr (turning-more c.args.wire c.args.key _ _ _ c.args.reactor.now.core c.loop-ending.reactor.core c.take_turn.new.reactor.core c.args.client.now c.loop-ending.client c.take_turn.new.client turn.Again
       c.loop-ending.invariant.turning (rw c.in-Again.is at c.in_ok-ending.ensures.turned));
   poller = c.in_ok-ending.ensures.cause ∙ c.loop-ending.invariant.poller;
-  origin = c.take_turn.ensures.origin ∙ c.loop-ending.invariant.origin;
+  keeps = keeps-then (part.Visit c.args.wire) _ _ _ c.loop-ending.invariant.keeps c.take_turn.ensures.keeps;
   reports = c.take_turn.ensures.reports ∙ c.loop-ending.invariant.reports;
 }
+
+pub returns-in_err-ending-clause-keeps : goal.returns-in_err-ending-clause-keeps
+returns-in_err-ending-clause-keeps g c = keeps-then (part.Visit c.args.wire) _ _ _ c.loop-ending.invariant.keeps c.take_turn.ensures.keeps
+
+pub returns-in-Over-clause-keeps : goal.returns-in-Over-clause-keeps
+returns-in-Over-clause-keeps g c = keeps-then (part.Visit c.args.wire) _ _ _ c.loop-ending.invariant.keeps c.take_turn.ensures.keeps
+
+pub returns-in-Over-clause-counted : goal.returns-in-Over-clause-counted
+returns-in-Over-clause-counted g c = ending-within c.args.wire c.in-Over.ending _ _ _ _ (rises-visit c.args.wire _ _ c.loop-ending.invariant.keeps) (rises-same c.args.wire _) (rw c.in-Over.is at c.in_ok-ending.ensures.counted)
+
+pub returns-in-Asleep-clause-keeps : goal.returns-in-Asleep-clause-keeps
+returns-in-Asleep-clause-keeps g c = keeps-then (part.Visit c.args.wire) _ _ _ c.loop-ending.invariant.keeps c.take_turn.ensures.keeps

@@ -1,4 +1,6 @@
 use Rattle.std.proofs.Common.{◌≡◌, map}
+use Rattle.react_core.specs.Outer.{Keeps}
+use Rattle.react_core.specs.Outer as part
 use Rattle.bus_peers.specs.Registry.{held_at}
 use Rattle.bus_peers.specs.Shown.{shown}
 use Rattle.bus_peers.specs.Visited.{may_ask}
@@ -7,9 +9,9 @@ use Rattle.bus_peers.proofs.visiting.resume.Given as goal
 
 abbrev pub invariant-loop-ending : goal.invariant-loop-ending
 invariant-loop-ending g l = record {
-  turning : Turning l.wire l.key (g.O.Tells.events l.fn.outside) (g.O.Tells.events l.outside) l.fn.reactor.core l.reactor.core l.fn.client l.client;
-  poller : g.O.Tells.poller_faults l.outside ≡ g.O.Tells.poller_faults l.fn.outside;
-  origin : g.O.Tells.origin l.outside ≡ g.O.Tells.origin l.fn.outside;
+  turning : Turning l.wire l.key ((g.O.Tells.outer l.fn.outside).events) ((g.O.Tells.outer l.outside).events) l.fn.reactor.core l.reactor.core l.fn.client l.client;
+  poller : (g.O.Tells.outer l.outside).poller_faults ≡ (g.O.Tells.outer l.fn.outside).poller_faults;
+  keeps : Keeps (part.Visit l.wire) (g.O.Tells.outer l.fn.outside) (g.O.Tells.outer l.outside);
   reports : l.reactor.events ≡ l.fn.reactor.events;
 }
 

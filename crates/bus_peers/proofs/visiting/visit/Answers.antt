@@ -2,6 +2,7 @@ use Rattle.std.proofs.Common.{ap}
 use Rattle.bus_peers.specs.declared.visiting.Turn.TheVariants as turn
 use Rattle.bus_peers.proofs.Turns.{on-err}
 use Rattle.bus_peers.proofs.StayLemmas.{keeps-removed, kept-turns, kept-source, turns-source, stays-asleep, stays-ended}
+use Rattle.bus_peers.proofs.FrameLemmas.{keeps-visit, ended-counted}
 use Rattle.bus_peers.proofs.visiting.visit.Goals as goal
 
 pub remove_io-requires : goal.remove_io-requires
@@ -33,3 +34,19 @@ returns-in_ok-ended_of-in-Ok-Some-clause-visited g c = stays-ended c.args.wire c
 pub returns-in-Err-clause-refused : goal.returns-in-Err-clause-refused
 returns-in-Err-clause-refused g c = keeps-removed c.args.sleeper.key c.remove_io-in-Err.result _ _ _ c.args.reactor.now.core c.resume.new.reactor.core c.remove_io-in-Err.new.self.core
     c.in-Err.ensures.refused (ap (λ x. x.core) c.remove_io-in-Err.ensures.removed) c.remove_io-in-Err.ensures.told
+
+pub returns-in_err-remove_io-in-Ok-Some-clause-keeps : goal.returns-in_err-remove_io-in-Ok-Some-clause-keeps
+returns-in_err-remove_io-in-Ok-Some-clause-keeps g c = keeps-visit c.args.wire _ _ _ c.resume.ensures.keeps c.remove_io.ensures.keeps
+
+pub returns-in_err-ended_of-in-Ok-Some-clause-keeps : goal.returns-in_err-ended_of-in-Ok-Some-clause-keeps
+returns-in_err-ended_of-in-Ok-Some-clause-keeps g c = keeps-visit c.args.wire _ _ _ c.resume.ensures.keeps c.remove_io.ensures.keeps
+
+pub returns-in_ok-ended_of-in-Ok-Some-clause-keeps : goal.returns-in_ok-ended_of-in-Ok-Some-clause-keeps
+returns-in_ok-ended_of-in-Ok-Some-clause-keeps g c = keeps-visit c.args.wire _ _ _ c.resume.ensures.keeps c.remove_io.ensures.keeps
+
+pub returns-in-Err-clause-keeps : goal.returns-in-Err-clause-keeps
+returns-in-Err-clause-keeps g c = keeps-visit c.args.wire _ _ _ c.resume.ensures.keeps c.remove_io-in-Err.ensures.keeps
+
+pub returns-in_ok-ended_of-in-Ok-Some-clause-counted : goal.returns-in_ok-ended_of-in-Ok-Some-clause-counted
+returns-in_ok-ended_of-in-Ok-Some-clause-counted g c = ended-counted c.args.wire c.in-Ok-Some.ending c.in_ok-ended_of-in-Ok-Some.field-0 _ _ _ (ap (λ e. e.ending) c.in_ok-ended_of-in-Ok-Some.ensures.value)
+    (rw c.in-Ok-Some.field-0-is at c.in-Ok-Some.ensures.counted) c.remove_io.ensures.keeps

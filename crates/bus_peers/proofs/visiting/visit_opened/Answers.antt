@@ -2,6 +2,9 @@ use Rattle.std.proofs.Common.{refl, ap}
 use Rattle.bus_peers.specs.Dialled.{conversation}
 use Rattle.bus_peers.proofs.Turns.{on-err}
 use Rattle.bus_peers.proofs.Firsts.{if-ok, refused-by, insert-keeps, inserted-holds, inserted-rests, inserted-keeps, inserted-tags, inserted-registers}
+use Rattle.react_core.specs.Outer.{keeps-same, poller-in-visit}
+use Rattle.react_core.specs.Outer as part
+use Rattle.bus_peers.proofs.FrameLemmas.{keeps-registered, slot-after}
 use Rattle.bus_peers.proofs.visiting.visit_opened.Goals as goal
 
 pub returns-in_err-key-clause-refused : goal.returns-in_err-key-clause-refused
@@ -38,3 +41,15 @@ returns-clause-refused g c =
     (λ keeps.
     inserted-keeps c.args.reactor.now.core c.insert_io.new.self.core c.args.wire c.in_ok-key.key c.in_ok-key.ensures.free (ap (λ r. r.core) c.in_ok-key.ensures.inserted) _ _ _ c.visit.new.reactor.core c.in_ok-key.ensures.told keeps)
     c.visit.ensures.refused
+
+pub returns-in_err-client-clause-keeps : goal.returns-in_err-client-clause-keeps
+returns-in_err-client-clause-keeps g c = keeps-same (part.Visit c.args.wire) _
+
+pub returns-in_err-key-clause-keeps : goal.returns-in_err-key-clause-keeps
+returns-in_err-key-clause-keeps g c = poller-in-visit c.args.wire _ _ c.insert_io.ensures.keeps
+
+pub returns-clause-keeps : goal.returns-clause-keeps
+returns-clause-keeps g c = keeps-registered c.args.wire _ _ _ c.insert_io.ensures.keeps c.visit.ensures.keeps
+
+pub returns-clause-counted : goal.returns-clause-counted
+returns-clause-counted g c = if-ok c.visit.result (λ slot counted. slot-after c.args.wire slot _ _ _ (poller-in-visit c.args.wire _ _ c.insert_io.ensures.keeps) counted) c.visit.ensures.counted

@@ -1,6 +1,7 @@
-use Rattle.std.proofs.Common.{◌≡◌, ◌+◌, ◌≤◌, ◌++◌, drop, vec_len, vec_capacity}
+use Rattle.std.proofs.Common.{◌≡◌, ◌+◌, ◌≤◌, ◌++◌, false, drop, vec_len, vec_capacity}
 use Rattle.slab.specs.Slab.{entries}
-use Rattle.react_core.specs.Causes.{ReactCounted}
+use Rattle.react_core.specs.Outer.{Keeps, Poller}
+use Rattle.react_core.specs.Causes.{ReactCounted, OnReactLack}
 use Rattle.react_core.specs.Reports.{after_reports, taken_by_all, armings_by_all}
 use Rattle.react_core.proofs.Taking.{waiting}
 use Rattle.react_core.proofs.Tries.{TriedSoFar}
@@ -13,11 +14,9 @@ invariant-loop-report g l = record {
   hands : l.hands.items ++ taken_by_all l.ticker (entries l.sources) (drop l.report-index l.reports) ≡ l.fn.hands.items ++ taken_by_all l.ticker (entries l.fn.sources) l.reports;
   room : vec_len l.hands + waiting (entries l.sources) ≤ vec_capacity l.hands;
   capacity : vec_capacity l.hands ≡ vec_capacity l.fn.hands;
-  armed : TriedSoFar (armings_by_all l.ticker (entries l.fn.sources) l.reports) (armings_by_all l.ticker (entries l.sources) (drop l.report-index l.reports)) l.answer (g.R.Tells.events l.fn.registrar) (g.R.Tells.events l.registrar);
-  cause : ReactCounted l.answer (g.R.Tells.poller_faults l.fn.registrar) (g.R.Tells.poller_faults l.registrar);
-  origin : g.R.Tells.origin l.registrar ≡ g.R.Tells.origin l.fn.registrar;
-  moment : g.R.Tells.moment l.registrar ≡ g.R.Tells.moment l.fn.registrar;
-  wires : g.R.Tells.wire_faults l.registrar ≡ g.R.Tells.wire_faults l.fn.registrar;
-  dials : g.R.Tells.dial_faults l.registrar ≡ g.R.Tells.dial_faults l.fn.registrar;
-  doors : g.R.Tells.doors l.registrar ≡ g.R.Tells.doors l.fn.registrar;
+  armed : TriedSoFar (armings_by_all l.ticker (entries l.fn.sources) l.reports) (armings_by_all l.ticker (entries l.sources) (drop l.report-index l.reports))
+      l.answer (g.R.Tells.outer l.fn.registrar).events (g.R.Tells.outer l.registrar).events;
+  cause : ReactCounted l.answer (g.R.Tells.outer l.fn.registrar).poller_faults (g.R.Tells.outer l.registrar).poller_faults;
+  memory : OnReactLack l.answer ((g.R.Tells.outer l.fn.registrar).ample ≡ false);
+  keeps : Keeps Poller (g.R.Tells.outer l.fn.registrar) (g.R.Tells.outer l.registrar);
 }

@@ -8,30 +8,32 @@ use Rattle.react_core.proofs.rounds.wait_for_reports.Goals as goal
 pub returns-in_err-wait-clause-pause : goal.returns-in_err-wait-clause-pause
 returns-in_err-wait-clause-pause g c =
     let p = err_from_is_err_and c.from_residual.result c.from_residual.ensures.1 in
-    pause-refused c.args.timeout _ _ _ _ c.in_err-wait.ensures.moment c.in_err-wait.field-0.0 c.from_residual.result c.wait.new.reports c.wait.new.reports c.in_err-wait.ensures.told (p.1 ∙ ap Err p.2)
+    pause-refused c.args.timeout _ _ _ _ c.in_err-wait.ensures.keeps.moment c.in_err-wait.field-0.0 c.from_residual.result c.wait.new.reports c.wait.new.reports
+    c.in_err-wait.ensures.told (p.1 ∙ ap Err p.2)
 
 pub returns-in-Interrupted-clause-pause : goal.returns-in-Interrupted-clause-pause
 returns-in-Interrupted-clause-pause g c =
-    pause-once c.args.timeout _ _ _ _ c.in_ok-wait.ensures.moment wait_answer.Interrupted _ _ (rw c.in-Interrupted.is at c.in_ok-wait.ensures.told) refl refl refl
+    pause-once c.args.timeout _ _ _ _ c.in_ok-wait.ensures.keeps.moment wait_answer.Interrupted _ _ (rw c.in-Interrupted.is at c.in_ok-wait.ensures.told) refl refl refl
 
 pub returns-in_err-_second-clause-pause : goal.returns-in_err-_second-clause-pause
 returns-in_err-_second-clause-pause g c =
     let p = err_from_is_err_and c.from_residual-in_err-_second.result c.from_residual-in_err-_second.ensures.1 in
-    pause-unread c.args.timeout _ _ _ _ c.in_ok-wait.ensures.moment c.in-Reported.count _ _ c.wait.new.reports c.from_residual-in_err-_second.result
+    pause-unread c.args.timeout _ _ _ _ c.in_ok-wait.ensures.keeps.moment c.in-Reported.count _ _ c.wait.new.reports c.from_residual-in_err-_second.result
     (rw c.in-Reported.is at c.in_ok-wait.ensures.told) c.in_err-_second.ensures.told c.in_err-_second.ensures.unread c.if-count-eq0.true
     (sym c.may_pass.ensures ∙ c.if-may_pass.true) (p.1 ∙ ap Err p.2)
 
 pub returns-in_ok-_second-clause-pause : goal.returns-in_ok-_second-clause-pause
 returns-in_ok-_second-clause-pause g c =
-    pause-twice c.args.timeout _ _ _ _ c.in_ok-wait.ensures.moment (wait_answer.Reported (take c.in-Reported.count c.wait.new.reports)) _ c.in_ok-_second._second _ _ _
+    pause-twice c.args.timeout _ _ _ _ c.in_ok-wait.ensures.keeps.moment (wait_answer.Reported (take c.in-Reported.count c.wait.new.reports)) _ c.in_ok-_second._second _ _ _
     (rw c.in-Reported.is at c.in_ok-wait.ensures.told) c.in_ok-_second.ensures.told c.in_ok-_second.ensures.forward c.in_ok-_second.ensures.reading
     (quiet_none c.args.timeout _ _ true c.if-count-eq0.true (sym c.may_pass.ensures ∙ c.if-may_pass.true)) refl refl
 
 pub returns-else-count-eq0-clause-pause : goal.returns-else-count-eq0-clause-pause
 returns-else-count-eq0-clause-pause g c =
-    pause-once c.args.timeout _ _ _ _ c.in_ok-wait.ensures.moment (wait_answer.Reported (take c.in-Reported.count c.wait.new.reports)) _ _
+    pause-once c.args.timeout _ _ _ _ c.in_ok-wait.ensures.keeps.moment (wait_answer.Reported (take c.in-Reported.count c.wait.new.reports)) _ _
     (rw c.in-Reported.is at c.in_ok-wait.ensures.told)
     (elim c.else-count-eq0.branch [
       | else-count-eq0-via-then-count-eq0+else-may_pass w ↦ quiet_none c.args.timeout _ _ false w.if-count-eq0.true (sym w.may_pass.ensures ∙ w.if-may_pass.false)
-      | else-count-eq0-via-else-count-eq0 w ↦ quiet_some c.args.timeout c.in-Reported.count c.wait.new.reports w.if-count-eq0.false (omega (arith, rw c.in-Reported.is at c.in_ok-wait.ensures.amount, c.wait.auto.reports))
+      | else-count-eq0-via-else-count-eq0 w ↦ quiet_some c.args.timeout c.in-Reported.count c.wait.new.reports w.if-count-eq0.false
+          (omega (arith, rw c.in-Reported.is at c.in_ok-wait.ensures.amount, c.wait.auto.reports))
     ]) refl refl

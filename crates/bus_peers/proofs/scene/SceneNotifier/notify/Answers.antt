@@ -1,15 +1,12 @@
 use Rattle.std.proofs.Common.{◌≡◌, ◌++◌, ◌∷◌, [], refl, arith}
 use Rattle.std.proofs.lemmas.Grind.{common_steps}
 use Rattle.react_core.specs.declared.outside.Event.TheVariants as event
-use Rattle.bus_peers.proofs.FaultLemmas.{wires_same, dials_same}
+use Rattle.bus_peers.specs.Cursors.{script_of}
+use Rattle.bus_peers.proofs.FaultLemmas.{keeps_poller}
 use Rattle.bus_peers.proofs.scene.SceneNotifier.notify.Goals as goal
 
-pub returns-clause-wires : goal.returns-clause-wires
-returns-clause-wires c =
+pub returns-clause-keeps : goal.returns-clause-keeps
+returns-clause-keeps c =
     let now : c.notify.new.player.told.items ≡ c.args.self.now.told ++ event.Notify c.notify.result ∷ [] = grind (arith, common_steps) in
-    wires_same c.args.self.now.told c.notify.new.player.told.items (event.Notify c.notify.result) now (λ w. refl)
-
-pub returns-clause-dials : goal.returns-clause-dials
-returns-clause-dials c =
-    let now : c.notify.new.player.told.items ≡ c.args.self.now.told ++ event.Notify c.notify.result ∷ [] = grind (arith, common_steps) in
-    dials_same c.args.self.now.told c.notify.new.player.told.items (event.Notify c.notify.result) now (λ w. refl)
+    let script : script_of c.notify.new.player.answers ≡ c.args.self.now.script = grind (arith, common_steps) in
+    keeps_poller c.args.self.now (record { script = script_of c.notify.new.player.answers; told = c.notify.new.player.told.items }) (event.Notify c.notify.result) script now refl (λ w. refl) (λ w. refl)

@@ -1,20 +1,17 @@
 use Rattle.std.proofs.Common.{◌≡◌, ◌++◌, arith}
 use Rattle.std.proofs.lemmas.Grind.{common_steps}
 use Rattle.react_core.specs.Told.{recv_told}
-use Rattle.bus_peers.proofs.FaultLemmas.{recv_cause, recv_others, recv_dials}
+use Rattle.bus_peers.specs.Cursors.{script_of}
+use Rattle.bus_peers.proofs.FaultLemmas.{counted_cause, recv_cause, keeps_recv}
 use Rattle.bus_peers.proofs.scene.SceneWire.recv.Goals as goal
 
 pub returns-clause-cause : goal.returns-clause-cause
 returns-clause-cause c =
     let now : c.recv.new.player.told.items ≡ c.args.self.now.told ++ recv_told c.args.wire c.recv.new.into c.recv.result = grind (arith, common_steps) in
-    recv_cause c.args.self.now.told c.recv.new.player.told.items c.args.wire c.recv.new.into c.recv.result now
+    counted_cause c.recv.result _ _ (recv_cause c.args.self.now.told c.recv.new.player.told.items c.args.wire c.recv.new.into c.recv.result now)
 
-pub returns-clause-others : goal.returns-clause-others
-returns-clause-others c =
+pub returns-clause-keeps : goal.returns-clause-keeps
+returns-clause-keeps c =
     let now : c.recv.new.player.told.items ≡ c.args.self.now.told ++ recv_told c.args.wire c.recv.new.into c.recv.result = grind (arith, common_steps) in
-    recv_others c.args.self.now.told c.recv.new.player.told.items c.args.wire c.recv.new.into c.recv.result now
-
-pub returns-clause-dials : goal.returns-clause-dials
-returns-clause-dials c =
-    let now : c.recv.new.player.told.items ≡ c.args.self.now.told ++ recv_told c.args.wire c.recv.new.into c.recv.result = grind (arith, common_steps) in
-    recv_dials c.args.self.now.told c.recv.new.player.told.items c.args.wire c.recv.new.into c.recv.result now
+    let script : script_of c.recv.new.player.answers ≡ c.args.self.now.script = grind (arith, common_steps) in
+    keeps_recv c.args.self.now (record { script = script_of c.recv.new.player.answers; told = c.recv.new.player.told.items }) c.args.wire c.recv.new.into c.recv.result script now

@@ -1,29 +1,47 @@
-use Rattle.std.proofs.Common.{◌∙◌, ap, Err}
+use Rattle.std.proofs.Common.{◌∙◌, ap, Err, length, vec_len, arith}
 use Rattle.std.proofs.lemmas.Result.{err_from_is_err_and}
-use Rattle.react_core.proofs.Courses.{UnlessExhausted-any, ran-unread, ran-read, rounds-ok, steps-ok}
+use Rattle.react_core.specs.declared.reactor.Begun.{Begun}
+use Rattle.react_core.specs.Core.{ReactorState}
+use Rattle.react_core.proofs.Courses.{UnlessExhausted-any, ran-unread, ran-read, RoundCounted-both, refused_alone}
+use Rattle.react_core.specs.Steps.{then-steps}
 use Rattle.react_core.proofs.reactor.Reactor.react.Goals as goal
 
-pub returns-in_err-_first-clause-ran : goal.returns-in_err-_first-clause-ran
-returns-in_err-_first-clause-ran g c =
+pub returns-in_err-first-clause-ran : goal.returns-in_err-first-clause-ran
+returns-in_err-first-clause-ran g c =
     let p = err_from_is_err_and c.from_residual.result c.from_residual.ensures.1 in
     UnlessExhausted-any c.from_residual.result _
-    (ran-unread g.W.Wakes.woke c.args.timeout _ _ _ _ _ _ c.from_residual.result c.in_err-_first.ensures.told c.in_err-_first.ensures.unread (p.1 ∙ ap Err p.2))
-
-pub returns-clause-ran : goal.returns-clause-ran
-returns-clause-ran g c = rw (← c.self.view_is)
-    (UnlessExhausted-any c.run_round-answer.result _
-    (ran-read g.W.Wakes.woke c.args.timeout _ _ _ _ _ _ c.in_ok-_first._first _ _ _ _ c.run_round-answer.result
-    c.in_ok-_first.ensures.told c.in_ok-_first.ensures.forward c.in_ok-_first.ensures.reading c.run_round-answer.ensures.passed))
-
-pub returns-clause-rounds : goal.returns-clause-rounds
-returns-clause-rounds g c = rw (← c.self.view_is)
-    (rounds-ok g.W.Wakes.woke c.args.timeout _ _ _ _ _ _ _ _ c.run_round-answer.result
-    (ran-read g.W.Wakes.woke c.args.timeout _ _ _ _ _ _ c.in_ok-_first._first _ _ _ _ c.run_round-answer.result
-    c.in_ok-_first.ensures.told c.in_ok-_first.ensures.forward c.in_ok-_first.ensures.reading c.run_round-answer.ensures.passed))
+    (ran-unread g.W.Wakes.woke c.args.timeout _ _ _ _ _ _ c.from_residual.result c.in_err-first.ensures.told c.in_err-first.ensures.unread (p.1 ∙ ap Err p.2))
 
 pub returns-clause-steps : goal.returns-clause-steps
-returns-clause-steps g c = rw (← c.self.view_is)
-    (steps-ok g.W.Wakes.woke c.args.timeout _ _ _ _ _ _ c.run_round-answer.result
-    (rounds-ok g.W.Wakes.woke c.args.timeout _ _ _ _ _ _ _ _ c.run_round-answer.result
-    (ran-read g.W.Wakes.woke c.args.timeout _ _ _ _ _ _ c.in_ok-_first._first _ _ _ _ c.run_round-answer.result
-    c.in_ok-_first.ensures.told c.in_ok-_first.ensures.forward c.in_ok-_first.ensures.reading c.run_round-answer.ensures.passed)))
+returns-clause-steps g c = then-steps (rw (← c.self-2.view_is) at c.in_ok-begun.ensures.steps) (rw (← c.self-3.view_is) at c.finish_round-finished.ensures.steps)
+
+pub returns-clause-ran : goal.returns-clause-ran
+returns-clause-ran g c =
+    let now = c.in_ok-first.ensures in
+    let waited = c.wait_for_reports-waited.ensures in
+    let finished = c.finish_round-finished.ensures in
+    UnlessExhausted-any c.first_refusal.result _
+    (ran-read g.W.Wakes.woke c.args.timeout _ _ _ _ _ _ _ _ c.in_ok-first.first _ _ _ _ _ _ c.split_at.result.0.now c.wait_for_reports-waited.result
+    c.finish_round-finished.result c.first_refusal.result
+    now.told now.forward now.reading (rw (← c.self-2.view_is) at c.in_ok-begun.ensures.step) (rw (ap (λ (b : Begun). b.timeout) c.in_ok-begun.ensures.begun) at waited.pause)
+    (rw (← c.count_of.ensures) c.split_at.ensures.front)
+    (omega (
+      arith,
+      c.split_at.ensures.front_len,
+      c.count_of.ensures,
+      waited.within,
+      ap length c.as_mut_slice-buffer.ensures.value,
+      ap vec_len c.replace-reports.ensures.value,
+      ap (λ (s : ReactorState). s.events) c.self-2.view_is,
+      ap (λ (s : ReactorState). s.events) c.in_ok-begun.ensures.core,
+    ))
+    finished.keeps.moment finished.tried (rw (← c.self-3.view_is) at finished.step) finished.woken c.first_refusal.ensures)
+
+pub returns-clause-cause : goal.returns-clause-cause
+returns-clause-cause g c =
+    RoundCounted-both c.wait_for_reports-waited.result c.finish_round-finished.result c.first_refusal.result _ _ _
+    (rw c.in_ok-first.ensures.keeps.poller at c.wait_for_reports-waited.ensures.cause) c.finish_round-finished.ensures.cause
+    (λ e is. refused_alone c.args.timeout _ _ _ _ _ _ _ _ c.split_at.result.0.now _ c.wait_for_reports-waited.result c.finish_round-finished.result e is
+    (rw (ap (λ (b : Begun). b.timeout) c.in_ok-begun.ensures.begun) at c.wait_for_reports-waited.ensures.pause)
+    (rw (← c.count_of.ensures) c.split_at.ensures.front) c.finish_round-finished.ensures.tried)
+    c.first_refusal.ensures

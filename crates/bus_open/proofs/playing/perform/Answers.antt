@@ -1,0 +1,55 @@
+use Rattle.std.proofs.Common.{ap, sym, ◌∙◌}
+use Rattle.bus_open.proofs.Cuts.{keeps_same}
+use Rattle.bus_open.proofs.Opening.{comes, exhausted-alone, fails, one-of, poller-alone, runs-out}
+use Rattle.bus_open.proofs.playing.perform.Goals as goal
+
+pub returns-in-Ok-opened-clause-opened : goal.returns-in-Ok-opened-clause-opened
+returns-in-Ok-opened-clause-opened g c = λ zero.
+    let all = rw c.as_slice.ensures.value at (c.report.ensures.all_open zero) in (
+      c.in-Ok-opened.endeds.items,
+      c.events-events.result.now,
+      comes c.args.played.scene.script _ c.args.played.sessions.items c.args.played.rounds _ _ c.in-Ok-opened.endeds.items _ _ c.events-events.result.now
+          c.open_all-opened.ensures.keeps.origin c.requires.new c.events-events.ensures.told c.events-events.ensures.follows c.in-Ok-opened.ensures.cause c.in-Ok-opened.ensures.opened,
+      all.0,
+      all.1,
+    )
+
+pub returns-in-Ok-opened-clause-other : goal.returns-in-Ok-opened-clause-other
+returns-in-Ok-opened-clause-other g c = λ one.
+    let other = rw c.as_slice.ensures.value at (c.report.ensures.other one) in (
+      c.in-Ok-opened.endeds.items,
+      c.events-events.result.now,
+      comes c.args.played.scene.script _ c.args.played.sessions.items c.args.played.rounds _ _ c.in-Ok-opened.endeds.items _ _ c.events-events.result.now
+          c.open_all-opened.ensures.keeps.origin c.requires.new c.events-events.ensures.told c.events-events.ensures.follows c.in-Ok-opened.ensures.cause c.in-Ok-opened.ensures.opened,
+      other.0,
+      other.1,
+    )
+
+pub returns-in-Ok-opened-clause-failed : goal.returns-in-Ok-opened-clause-failed
+returns-in-Ok-opened-clause-failed g c = λ four.
+    let failed = rw c.as_slice.ensures.value at (c.report.ensures.failed four) in (
+      c.in-Ok-opened.endeds.items,
+      c.events-events.result.now,
+      comes c.args.played.scene.script _ c.args.played.sessions.items c.args.played.rounds _ _ c.in-Ok-opened.endeds.items _ _ c.events-events.result.now
+          c.open_all-opened.ensures.keeps.origin c.requires.new c.events-events.ensures.told c.events-events.ensures.follows c.in-Ok-opened.ensures.cause c.in-Ok-opened.ensures.opened,
+      failed.0,
+      failed.1,
+    )
+
+pub returns-clause-status : goal.returns-clause-status
+returns-clause-status g c = rw c.status_of.ensures (one-of c.in-Err.refusal)
+
+pub returns-clause-poller : goal.returns-clause-poller
+returns-clause-poller g c = λ six. (
+  fails c.args.played.scene.script _ _ _ c.events-events.result.now c.open_all-opened.ensures.keeps.origin c.requires.new c.events-events.ensures.told c.events-events.ensures.follows
+      (rw (poller-alone c.in-Err.refusal (sym c.status_of.ensures ∙ six)) at c.in-Err.ensures.cause),
+  keeps_same _,
+)
+
+pub returns-clause-exhausted : goal.returns-clause-exhausted
+returns-clause-exhausted g c = λ seven.
+    let alone = exhausted-alone c.in-Err.refusal (sym c.status_of.ensures ∙ seven) in
+    let refused = rw alone.2 at (c.in-Err.ensures.opened).3 in (
+      runs-out c.args.played.sessions.items c.args.played.rounds c.args.played.tick c.in-Ok.reactor.core (c.in-Err.ensures.opened).0 (ap (λ r. r.core.ticker) c.in-Ok.ensures) refused.3,
+      keeps_same _,
+    )

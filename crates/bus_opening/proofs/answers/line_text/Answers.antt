@@ -1,8 +1,0 @@
-use Rattle.bus_opening.proofs.TextLemmas.{line_none, line_some}
-use Rattle.bus_opening.proofs.answers.line_text.Goals as goal
-
-pub returns-in-Ok : goal.returns-in-Ok
-returns-in-Ok c = line_some c.args.line.now c.in-Ok.text.now c.saturating_sub-end.result c.saturating_sub-end.ensures c.if-line-end-ne13.false c.in-Ok.ensures.cases.0 c.in-Ok.ensures.cases.1
-
-pub returns-in-Err : goal.returns-in-Err
-returns-in-Err c = line_none c.args.line.now c.saturating_sub-end.result c.saturating_sub-end.ensures c.in-Err.ensures.cases.0

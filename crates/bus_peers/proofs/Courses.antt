@@ -1,0 +1,96 @@
+-- What a round does to the core, and a round of which nothing was refused.
+use Rattle.std.proofs.Common.{◌≡◌, ◌≢◌, ◌+◌, ℕ, is_some, List, [], ◌∷◌, ◌++◌, map, Option, Some, None, Result, Ok, Err, subst, refl, sym, ap, ◌∙◌}
+use Rattle.react_core.specs.declared.outside.Event.{Event}
+use Rattle.react_core.specs.declared.outside.Event.TheVariants as event
+use Rattle.react_core.specs.declared.outside.Fault.{Fault}
+use Rattle.react_core.specs.declared.outside.Fault.TheVariants as fault
+use Rattle.react_core.specs.declared.outside.WaitAnswer.{WaitAnswer}
+use Rattle.react_core.specs.declared.outside.WaitAnswer.TheVariants as wait_answer
+use Rattle.react_core.specs.declared.reactor.ReactError.{ReactError}
+use Rattle.react_core.specs.declared.reactor.ReactError.TheVariants.{Poller, OutOfMemory, Exhausted}
+use Rattle.react_core.specs.Core.{Core, ReactorState}
+use Rattle.react_core.specs.Reports.{Arming, Try, armed_told, armings_by_all, taken_by_all, tries_told, try_answer, worse, worst}
+use Rattle.react_core.specs.Round.{Ran, Course, CourseSteps, Unread, Read, Pause, Unwaited, Waited, Reread, Unreread, is_quiet, pause_reports, pause_told, reports_of}
+use Rattle.react_core.specs.Step.{WokeAll, begun_round, finish_wakes, finished_round}
+use Rattle.react_core.specs.Told.{told, modify_told}
+use Rattle.bus_peers.specs.RoundEvents.{Round, IsRound, reading_told, round_told}
+
+-- the core after a round with these reports
+pub course-core : (old new : Core) (first : ℕ) (pause : Pause) (tasks : List ℕ) → CourseSteps old (Read first pause) tasks new → new ≡ finished_round (begun_round old) (pause_reports pause)
+course-core old new first pause tasks steps = steps.finishes.core ∙ ap (λ core. finished_round core (pause_reports pause)) steps.begins.core
+
+-- the tasks that it wakes
+course-tasks : (old new : Core) (first : ℕ) (pause : Pause) (tasks : List ℕ) → CourseSteps old (Read first pause) tasks new → tasks ≡ taken_by_all (old.ticker + 1) old.sources (pause_reports pause)
+course-tasks old new first pause tasks steps = steps.finishes.wakes ∙ ap (λ core. finish_wakes core (pause_reports pause)) steps.begins.core
+
+-- ---- armings of which none was refused
+
+worse-both : (a b : Result (Unit {0}) ReactError) → worse a b ≡ Ok tt → (a ≡ Ok tt) × (b ≡ Ok tt)
+worse-both (Ok u) b is = (refl, is)
+worse-both (Err Poller) b is = absurd (cc)
+worse-both (Err OutOfMemory) (Ok u) is = absurd (cc)
+worse-both (Err OutOfMemory) (Err Poller) is = absurd (cc)
+worse-both (Err OutOfMemory) (Err OutOfMemory) is = absurd (cc)
+worse-both (Err OutOfMemory) (Err (Exhausted c v)) is = absurd (cc)
+worse-both (Err (Exhausted c v)) (Ok u) is = absurd (cc)
+worse-both (Err (Exhausted c v)) (Err Poller) is = absurd (cc)
+worse-both (Err (Exhausted c v)) (Err OutOfMemory) is = absurd (cc)
+worse-both (Err (Exhausted c v)) (Err (Exhausted k w)) is = absurd (cc)
+
+told-ok : (a : Arming) (f : Result (Unit {0}) Fault) → try_answer f ≡ Ok tt → modify_told a.wire a.key a.read a.write f ≡ armed_told a ∷ []
+told-ok a (Ok u) is = refl
+told-ok a (Err fault.Failed) is = absurd (cc)
+told-ok a (Err fault.OutOfMemory) is = absurd (cc)
+
+tries_told-ok : (tries : List Try) → worst tries ≡ Ok tt → tries_told tries ≡ map armed_told (map (λ t. t.0) tries)
+tries_told-ok [] is = refl
+tries_told-ok (t ∷ tries) is =
+    let both = worse-both (try_answer t.1) (worst tries) is in
+    ap (λ es. modify_told t.0.wire t.0.key t.0.read t.0.write t.1 ++ es) (tries_told-ok tries both.1) ∙ ap (λ es. es ++ map armed_told (map (λ u. u.0) tries)) (told-ok t.0 t.1 both.0)
+
+tries-ok : (armings : List Arming) (tries : List Try) → map (λ t. t.0) tries ≡ armings → worst tries ≡ Ok tt → tries_told tries ≡ map armed_told armings
+tries-ok armings tries each is = tries_told-ok tries is ∙ ap (map armed_told) each
+
+-- ---- a round of which nothing was refused
+
+-- what is told, what is left, what is woken
+pub record Rounds {W : Type 0} (woke : W → ℕ → W → Type 0) (timeout : Option ℕ) (before after : Option (List Event)) (old new : Core) (wakes wakes' : W) (r : Round) : Type 0 where
+  pub form : IsRound timeout r
+  pub gained : after ≡ told before (round_told timeout r ++ map armed_told (armings_by_all (old.ticker + 1) old.sources (reports_of r.answer)))
+  pub core : new ≡ finished_round (begun_round old) (reports_of r.answer)
+  pub woken : WokeAll woke wakes (taken_by_all (old.ticker + 1) old.sources (reports_of r.answer)) wakes'
+
+module _ {W : Type 0} (woke : W → ℕ → W → Type 0) (timeout : Option ℕ) where
+  well : (r0 r1 : Option (List Event)) (m0 m1 t : ℕ) (old new : ReactorState) (wakes wakes' : W) (a : WaitAnswer) (p : Pause) (o : Option ℕ) (tries : List Try) →
+      pause_told timeout p ≡ event.Wait timeout a ∷ reading_told o → pause_reports p ≡ reports_of a → is_some o ≡ is_quiet timeout a → a ≢ wait_answer.Failed → worst tries ≡ Ok tt →
+      Ran woke timeout r0 r1 m0 m1 old new wakes wakes' (Ok tt) (Read t p) tries → (r : Round) × Rounds woke timeout r0 r1 old.core new.core wakes wakes' r
+  well r0 r1 m0 m1 t old new wakes wakes' a p o tries says same tests whole ok ran =
+      let armings : List Arming = armings_by_all (old.core.ticker + 1) old.core.sources (reports_of a) in
+      let each : map (λ x. x.0) tries ≡ armings = ran.each ∙ ap (armings_by_all (old.core.ticker + 1) old.core.sources) same in
+      let Woke : List ℕ → Type 0 = λ tasks. WokeAll woke wakes tasks wakes' in (
+        record { first = t; answer = a; second = o },
+        record {
+          form = (tests, whole);
+          gained = ran.gained ∙ ap (λ es. told r0 es) (
+              ap (λ es. (event.Now t ∷ es) ++ tries_told tries) says
+              ∙ ap (λ es. (event.Now t ∷ event.Wait timeout a ∷ reading_told o) ++ es) (tries-ok armings tries each ok));
+          core = course-core old.core new.core t p ran.tasks ran.steps ∙ ap (finished_round (begun_round old.core)) same;
+          woken = subst Woke (course-tasks old.core new.core t p ran.tasks ran.steps ∙ ap (taken_by_all (old.core.ticker + 1) old.core.sources) same) ran.woken;
+        },
+      )
+
+  pub rounds-well : (r0 r1 : Option (List Event)) (m0 m1 : ℕ) (old new : ReactorState) (wakes wakes' : W) (course : Course) (tries : List Try) →
+      Ran woke timeout r0 r1 m0 m1 old new wakes wakes' (Ok tt) course tries → (r : Round) × Rounds woke timeout r0 r1 old.core new.core wakes wakes' r
+  rounds-well r0 r1 m0 m1 old new wakes wakes' Unread tries ran = absurd (let e = ran.answers in cc)
+  rounds-well r0 r1 m0 m1 old new wakes wakes' (Read t Unwaited) tries ran = absurd (let e = ran.answers in cc)
+  rounds-well r0 r1 m0 m1 old new wakes wakes' (Read t (Unreread a)) tries ran = absurd (let e = ran.answers in cc)
+  rounds-well r0 r1 m0 m1 old new wakes wakes' (Read t (Waited wait_answer.Failed)) tries ran = absurd (let e = ran.answers in cc)
+  rounds-well r0 r1 m0 m1 old new wakes wakes' (Read t (Reread wait_answer.Failed s)) tries ran = absurd (let e = ran.answers in cc)
+  rounds-well r0 r1 m0 m1 old new wakes wakes' (Read t (Waited wait_answer.Interrupted)) tries ran =
+      well r0 r1 m0 m1 t old new wakes wakes' wait_answer.Interrupted (Waited wait_answer.Interrupted) None tries refl refl (sym ran.form) (λ e. absurd (cc)) (sym ran.answers) ran
+  rounds-well r0 r1 m0 m1 old new wakes wakes' (Read t (Reread wait_answer.Interrupted s)) tries ran =
+      well r0 r1 m0 m1 t old new wakes wakes' wait_answer.Interrupted (Reread wait_answer.Interrupted s) (Some s) tries refl refl (sym ran.form) (λ e. absurd (cc)) (sym ran.answers) ran
+  rounds-well r0 r1 m0 m1 old new wakes wakes' (Read t (Waited (wait_answer.Reported rs))) tries ran =
+      well r0 r1 m0 m1 t old new wakes wakes' (wait_answer.Reported rs) (Waited (wait_answer.Reported rs)) None tries refl refl (sym ran.form) (λ e. absurd (cc)) (sym ran.answers) ran
+  rounds-well r0 r1 m0 m1 old new wakes wakes' (Read t (Reread (wait_answer.Reported rs) s)) tries ran =
+      well r0 r1 m0 m1 t old new wakes wakes' (wait_answer.Reported rs) (Reread (wait_answer.Reported rs) s) (Some s) tries refl refl (sym ran.form) (λ e. absurd (cc)) (sym ran.answers) ran

@@ -1,0 +1,249 @@
+-- What the calls of a visit keep of the outside, and which counts they raise.
+use Rattle.std.proofs.Common.{◌≡◌, ◌≢◌, ◌≤◌, ◌⊎◌, inl, inr, ◌+◌, ◌-◌, ◌^◌, ℕ, List, [], ◌∷◌, ◌++◌, length, Option, Some, None, Result, Ok, Err, min, max, slice_set, Bool, true, false, if◌then◌else◌, zero, suc, refl, sym, ap, ◌∙◌, subst, arith}
+use Rattle.std.specs.Prelude.{IfOk, OnOk, OnErr}
+use Rattle.std.proofs.lemmas.Option.{same_Some}
+use Rattle.react_core.specs.Core.{Core, inserted}
+use Rattle.react_core.specs.Readiness.{Outcome, Fires, Stays, Begins, after_source_poll, poll_outcome}
+use Rattle.react_core.specs.Sources.{source_of}
+use Rattle.react_core.specs.Places.{Source}
+use Rattle.react_core.specs.declared.reactor.Dir.{Dir}
+use Rattle.react_core.specs.Step.{Kind, Answer, Step, PolledPoll, Insert, Remove, Begin, Return, Finish, Polled, Done}
+use Rattle.react_core.specs.Steps.{Steps, CoreSteps}
+use Rattle.react_core.specs.Outer.{Outer, Keeps, keeps-same, keeps-then, wire-in-visit, dial-in-visit, poller-in-visit, visit-in-all, round-in-all}
+use Rattle.react_core.specs.Outer as part
+use Rattle.react_core.specs.Told.{Rose}
+use Rattle.bus_opening.specs.Polling.{IoCounted}
+use Rattle.bus_opening.specs.declared.verdict.Step.TheVariants as step
+use Rattle.bus_opening.specs.declared.verdict.Step as steps
+use Rattle.bus_opening.specs.declared.verdict.Verdict.{Verdict}
+use Rattle.bus_opening.specs.declared.verdict.Verdict.TheVariants as verdict
+use Rattle.bus_script.specs.declared.ended.Ending.{Ending}
+use Rattle.bus_script.specs.declared.ended.Ending.TheVariants as ending
+use Rattle.bus_script.specs.declared.ended.Ended.{Ended}
+use Rattle.react_core.specs.declared.outside.Opened.{Opened}
+use Rattle.react_core.specs.declared.outside.OutOfMemory.{OutOfMemory}
+use Rattle.bus_peers.specs.declared.visiting.Slot.{Slot}
+use Rattle.bus_peers.specs.declared.visiting.Slot.TheVariants as slot
+use Rattle.bus_peers.specs.declared.visiting.Turn.{Turn}
+use Rattle.bus_peers.specs.declared.visiting.Turn.TheVariants as turn
+use Rattle.bus_opening.specs.Openings.{Opening}
+use Rattle.react_core.specs.declared.outside.Event.{Event}
+use Rattle.bus_peers.specs.declared.session.Session.{Session}
+use Rattle.bus_peers.specs.Shown.{Tags}
+use Rattle.bus_peers.specs.Visited.{ending_of, KeepsCall, FirstVisits, undialled, dialled}
+use Rattle.bus_peers.specs.Visited as visited
+use Rattle.bus_peers.specs.Rounds.{EndsIn, AllEnd}
+use Rattle.bus_peers.specs.Faults.{EndingCounted, EndedsCounted, DialCounted, TurnCounted, SlotCounted, AllCounted, CountsOn}
+
+-- ---- a count that rose, over a longer stretch
+
+pub rose-within : (a b c d : ℕ) → a ≤ b → c ≤ d → Rose b c → Rose a d
+rose-within a b c d low high rose = omega (arith, low, high, rose)
+
+pub rose-rises : (a b : ℕ) → Rose a b → a ≤ b
+rose-rises a b rose = omega (arith, rose)
+
+-- a count that stood
+pub same-rises : (a b : ℕ) → b ≡ a → a ≤ b
+same-rises a b same = omega (arith, same)
+
+pub io-rises : (answer : steps.Step) (a b : ℕ) → IoCounted answer a b → a ≤ b
+io-rises (step.Done (verdict.Authenticated settled)) a b counted = same-rises a b counted
+io-rises (step.Done verdict.Handshake) a b counted = same-rises a b counted
+io-rises (step.Done verdict.Io) a b counted = rose-rises a b counted
+io-rises (step.Done verdict.LineTooLong) a b counted = same-rises a b counted
+io-rises (step.Done verdict.TooManyCommands) a b counted = same-rises a b counted
+io-rises step.WantRead a b counted = same-rises a b counted
+io-rises step.WantWrite a b counted = same-rises a b counted
+io-rises step.OutOfMemory a b counted = same-rises a b counted
+
+pub dial-rises : {E : Type 0} (result : Result (Option Opened) E) (a b : ℕ) → DialCounted result a b → a ≤ b
+dial-rises (Ok None) a b counted = rose-rises a b counted
+dial-rises (Ok (Some opened)) a b counted = same-rises a b counted
+dial-rises (Err e) a b counted = same-rises a b counted
+
+module _ {Origin : Type 0} where
+  -- neither count of this wire fell
+  pub record Rises (wire : ℕ) (a b : Outer Origin) : Type 0 where
+    pub wires : a.wire_faults wire ≤ b.wire_faults wire
+    pub dials : a.dial_faults wire ≤ b.dial_faults wire
+
+  pub rises-same : (wire : ℕ) (a : Outer Origin) → Rises wire a a
+  rises-same wire a = record { wires = omega arith; dials = omega arith }
+
+  pub rises-visit : (wire : ℕ) (a b : Outer Origin) → Keeps (part.Visit wire) a b → Rises wire a b
+  rises-visit wire a b k = record { wires = k.wires.1; dials = k.dials.1 }
+
+  pub rises-all : (wire : ℕ) (a b : Outer Origin) → Keeps part.All a b → Rises wire a b
+  rises-all wire a b k = record { wires = k.wires wire; dials = k.dials wire }
+
+  pub ending-within : (wire : ℕ) (e : Ending) (a b c d : Outer Origin) → Rises wire a b → Rises wire c d → EndingCounted wire e b c → EndingCounted wire e a d
+  ending-within wire (ending.Open guid cap_unix_fd) a b c d low high counted = tt
+  ending-within wire ending.Unsupported a b c d low high counted = tt
+  ending-within wire ending.Connection a b c d low high counted = rose-within _ _ _ _ low.dials high.dials counted
+  ending-within wire ending.Io a b c d low high (inl counted) = inl (rose-within _ _ _ _ low.dials high.dials counted)
+  ending-within wire ending.Io a b c d low high (inr counted) = inr (rose-within _ _ _ _ low.wires high.wires counted)
+  ending-within wire ending.Handshake a b c d low high counted = tt
+  ending-within wire ending.LineTooLong a b c d low high counted = tt
+  ending-within wire ending.TooManyCommands a b c d low high counted = tt
+  ending-within wire ending.TimedOut a b c d low high counted = tt
+  ending-within wire ending.Waiting a b c d low high counted = tt
+
+  pub turn-within : (wire : ℕ) (t : Turn) (a b c d : Outer Origin) → Rises wire a b → Rises wire c d → TurnCounted wire t b c → TurnCounted wire t a d
+  turn-within wire (turn.Over e) a b c d low high counted = ending-within wire e a b c d low high counted
+  turn-within wire turn.Again a b c d low high counted = tt
+  turn-within wire turn.Asleep a b c d low high counted = tt
+
+  pub slot-within : (wire : ℕ) (s : Slot) (a b c d : Outer Origin) → Rises wire a b → Rises wire c d → SlotCounted wire s b c → SlotCounted wire s a d
+  slot-within wire (slot.Ended e) a b c d low high counted = ending-within wire e.ending a b c d low high counted
+  slot-within wire (slot.Asleep s) a b c d low high counted = tt
+  slot-within wire slot.Refused a b c d low high counted = tt
+
+  -- ---- a turn
+
+  -- a poll of the conversation
+  pub keeps-polled : (wire : ℕ) (answer : steps.Step) (a b : Outer Origin) → Keeps (part.Wire wire) a b → IoCounted answer (a.wire_faults wire) (b.wire_faults wire) → Keeps (part.Visit wire) a b
+  keeps-polled wire answer a b k counted = wire-in-visit wire a b k (io-rises answer _ _ counted)
+
+  -- and then a call of the poller
+  pub keeps-noted : (wire : ℕ) (answer : steps.Step) (a b c : Outer Origin) → Keeps (part.Wire wire) a b → IoCounted answer (a.wire_faults wire) (b.wire_faults wire) → Keeps part.Poller b c → Keeps (part.Visit wire) a c
+  keeps-noted wire answer a b c k counted l = keeps-then (part.Visit wire) a b c (keeps-polled wire answer a b k counted) (poller-in-visit wire b c l)
+
+  verdict-counted : (wire : ℕ) (v : Verdict) (a b : Outer Origin) → IoCounted (step.Done v) (a.wire_faults wire) (b.wire_faults wire) → EndingCounted wire (ending_of v) a b
+  verdict-counted wire (verdict.Authenticated settled) a b counted = tt
+  verdict-counted wire verdict.Handshake a b counted = tt
+  verdict-counted wire verdict.Io a b counted = inr counted
+  verdict-counted wire verdict.LineTooLong a b counted = tt
+  verdict-counted wire verdict.TooManyCommands a b counted = tt
+
+  pub over-counted : (wire : ℕ) (v : Verdict) (e : Ending) (a b : Outer Origin) → e ≡ ending_of v → IoCounted (step.Done v) (a.wire_faults wire) (b.wire_faults wire) → EndingCounted wire e a b
+  over-counted wire v e a b is counted = let C : Ending → Type 0 = λ x. EndingCounted wire x a b in subst C (sym is) (verdict-counted wire v a b counted)
+
+  -- a turn that stops has no ending
+  pub stop-counted : (wire : ℕ) (again : Bool) (t : Turn) (a b : Outer Origin) → t ≡ (if again then turn.Again else turn.Asleep) → TurnCounted wire t a b
+  stop-counted wire true t a b is = let C : Turn → Type 0 = λ x. TurnCounted wire x a b in subst C (sym is) tt
+  stop-counted wire false t a b is = let C : Turn → Type 0 = λ x. TurnCounted wire x a b in subst C (sym is) tt
+
+  -- one visit's call after others of it
+  pub keeps-visit : (wire : ℕ) (a b c : Outer Origin) → Keeps (part.Visit wire) a b → Keeps part.Poller b c → Keeps (part.Visit wire) a c
+  keeps-visit wire a b c k l = keeps-then (part.Visit wire) a b c k (poller-in-visit wire b c l)
+
+  -- a poller's call before the rest of a visit
+  pub keeps-registered : (wire : ℕ) (a b c : Outer Origin) → Keeps part.Poller a b → Keeps (part.Visit wire) b c → Keeps (part.Visit wire) a c
+  keeps-registered wire a b c k l = keeps-then (part.Visit wire) a b c (poller-in-visit wire a b k) l
+
+  pub keeps-dialled : {E : Type 0} (wire : ℕ) (result : Result (Option Opened) E) (a b : Outer Origin) → Keeps (part.Dial wire) a b → DialCounted result (a.dial_faults wire) (b.dial_faults wire) → Keeps (part.Visit wire) a b
+  keeps-dialled wire result a b k counted = dial-in-visit wire a b k (dial-rises result _ _ counted)
+
+  -- the ending of a visit, whose source is taken out then
+  pub ended-counted : (wire : ℕ) (x : Ending) (e : Ended) (a b c : Outer Origin) → e.ending ≡ x → EndingCounted wire x a b → Keeps part.Poller b c → EndingCounted wire e.ending a c
+  ended-counted wire x e a b c is counted k =
+      let C : Ending → Type 0 = λ y. EndingCounted wire y a c in
+      subst C (sym is) (ending-within wire x a a b c (rises-same wire a) (rises-visit wire b c (poller-in-visit wire b c k)) counted)
+
+  -- the dialling opened nothing
+  pub unconnected-counted : (wire : ℕ) (opened : Option Opened) (e : Ended) (a b : Outer Origin) → opened ≡ None → e.ending ≡ ending.Connection →
+      DialCounted {E = OutOfMemory} (Ok opened) (a.dial_faults wire) (b.dial_faults wire) → EndingCounted wire e.ending a b
+  unconnected-counted wire opened e a b none is counted =
+      let C : Ending → Type 0 = λ y. EndingCounted wire y a b in
+      let D : Option Opened → Type 0 = λ o. DialCounted {E = OutOfMemory} (Ok o) (a.dial_faults wire) (b.dial_faults wire) in
+      subst C (sym is) (subst D none counted)
+
+  -- a visit's slot, from before the calls that led to it
+  pub slot-after : (wire : ℕ) (s : Slot) (a b c : Outer Origin) → Keeps (part.Visit wire) a b → SlotCounted wire s b c → SlotCounted wire s a c
+  slot-after wire s a b c k counted = slot-within wire s a b c c (rises-visit wire a b k) (rises-same wire c) counted
+
+  -- ---- the slots
+
+  pub all-later : (wire : ℕ) (slots : List Slot) (a b c : Outer Origin) → Keeps part.All b c → AllCounted wire slots a b → AllCounted wire slots a c
+  all-later wire [] a b c k all = tt
+  all-later wire (s ∷ slots) a b c k all = (slot-within wire s a a b c (rises-same wire a) (rises-all wire b c k) all.0, all-later (wire + 1) slots a b c k all.1)
+
+  pub all-none : (slots : List Slot) (a b : Outer Origin) → slots ≡ [] → AllCounted 0 slots a b
+  all-none slots a b none = let C : List Slot → Type 0 = λ x. AllCounted 0 x a b in subst C (sym none) tt
+
+  -- one slot more
+  all-append : (wire at : ℕ) (slots : List Slot) (s : Slot) (a b : Outer Origin) → at ≡ wire + length slots → AllCounted wire slots a b → SlotCounted at s a b → AllCounted wire (slots ++ s ∷ []) a b
+  all-append wire at [] s a b is all counted = let C : ℕ → Type 0 = λ w. SlotCounted w s a b in let here : at ≡ wire = omega (arith, is) in (subst C here counted, tt)
+  all-append wire at (x ∷ slots) s a b is all counted = (all.0, all-append (wire + 1) at slots s a b (omega (arith, is)) all.1 counted)
+
+  pub all-more : (wire : ℕ) (slots : List Slot) (s : Slot) (a b c : Outer Origin) → wire ≡ length slots → Keeps part.All a b → Keeps (part.Visit wire) b c → AllCounted 0 slots a b → SlotCounted wire s b c → AllCounted 0 (slots ++ s ∷ []) a c
+  all-more wire slots s a b c is k l all counted =
+      all-append 0 wire slots s a c (omega (arith, is)) (all-later 0 slots a b c (visit-in-all wire b c l) all) (slot-within wire s a b c c (rises-all wire a b k) (rises-same wire c) counted)
+
+  all-set : (wire at : ℕ) (slots : List Slot) (i : ℕ) (s : Slot) (a b : Outer Origin) → at ≡ wire + i → AllCounted wire slots a b → SlotCounted at s a b → AllCounted wire (slice_set slots i s) a b
+  all-set wire at [] i s a b is all counted = tt
+  all-set wire at (x ∷ slots) zero s a b is all counted = let C : ℕ → Type 0 = λ w. SlotCounted w s a b in let here : at ≡ wire = omega (arith, is) in (subst C here counted, all.1)
+  all-set wire at (x ∷ slots) (suc i) s a b is all counted = (all.0, all-set (wire + 1) at slots i s a b (omega (arith, is)) all.1 counted)
+
+  -- a visit of this wire's session
+  pub counts-set : (wire : ℕ) (slots : List Slot) (s : Slot) (a b : Outer Origin) → Keeps (part.Visit wire) a b → SlotCounted wire s a b → CountsOn slots (slice_set slots wire s) a b
+  counts-set wire slots s a b k counted = λ start before all.
+      all-set 0 wire slots wire s start b (omega arith) (all-later 0 slots start a b (visit-in-all wire a b k) all) (slot-within wire s start a b b (rises-all wire start a before) (rises-same wire b) counted)
+
+  pub counts-same : (slots : List Slot) (a b : Outer Origin) → Keeps part.All a b → CountsOn slots slots a b
+  counts-same slots a b k = λ start before all. all-later 0 slots start a b k all
+
+  pub counts-none : (slots : List Slot) (a : Outer Origin) → CountsOn slots slots a a
+  counts-none slots a = λ start before all. all
+
+  pub counts-then : (slots slots1 slots2 : List Slot) (a b c : Outer Origin) → Keeps part.All a b → CountsOn slots slots1 a b → CountsOn slots1 slots2 b c → CountsOn slots slots2 a c
+  counts-then slots slots1 slots2 a b c k first second = λ start before all. second start (keeps-then part.All start a b before k) (first start before all)
+
+  -- ---- the endings
+
+  slot-ended : (wire : ℕ) (s : Slot) (e : Ended) (a b : Outer Origin) → EndsIn wire s e → SlotCounted wire s a b → EndingCounted wire e.ending a b
+  slot-ended wire (slot.Ended d) e a b is counted = let C : Ended → Type 0 = λ x. EndingCounted wire x.ending a b in subst C (sym is) counted
+  slot-ended wire (slot.Asleep s) e a b is counted = let C : Ended → Type 0 = λ x. EndingCounted wire x.ending a b in subst C (sym is) tt
+  slot-ended wire slot.Refused e a b is counted = absurd is
+
+  pub all-ended : (wire : ℕ) (slots : List Slot) (endeds : List Ended) (a b : Outer Origin) → AllEnd wire slots endeds → AllCounted wire slots a b → EndedsCounted wire endeds a b
+  all-ended wire [] [] a b ends all = tt
+  all-ended wire (s ∷ slots) (e ∷ endeds) a b ends all = (slot-ended wire s e a b ends.0 all.0, all-ended (wire + 1) slots endeds a b ends.1 all.1)
+  all-ended wire [] (e ∷ endeds) a b ends all = absurd ends
+  all-ended wire (s ∷ slots) [] a b ends all = absurd ends
+
+-- ---- no timer is made
+
+poll-made : (core : Core) (key : ℕ) (o : Option Source) (dir : Dir) (task : ℕ) (out : Outcome) → (after_source_poll core key o dir task out).made ≡ core.made
+poll-made core key None dir task out = refl
+poll-made core key (Some s) dir task Fires = refl
+poll-made core key (Some s) dir task Stays = refl
+poll-made core key (Some s) dir task (Begins tasks arms) = refl
+
+step-made : (old : Core) (kind : Kind) (answer : Answer) (woken : List ℕ) (new : Core) → Step old kind answer woken new → new.made ≡ old.made
+step-made old (PolledPoll key dir task) (Polled answer) woken new s = ap (λ c. c.made) s.core ∙ poll-made old key (source_of old.sources key) dir task (poll_outcome old key dir task)
+step-made old (Insert wire key) Done woken new s = ap (λ c. c.made) s.core
+step-made old (Remove key) Done woken new s = ap (λ c. c.made) s.core
+step-made old Begin Done woken new s = ap (λ c. c.made) s.core
+step-made old (Return reports) Done woken new s = ap (λ c. c.made) s.core
+step-made old (Finish reports) Done woken new s = ap (λ c. c.made) s.core
+step-made old (PolledPoll key dir task) Done woken new s = absurd s
+step-made old (Insert wire key) (Polled answer) woken new s = absurd s
+step-made old (Remove key) (Polled answer) woken new s = absurd s
+step-made old Begin (Polled answer) woken new s = absurd s
+step-made old (Return reports) (Polled answer) woken new s = absurd s
+step-made old (Finish reports) (Polled answer) woken new s = absurd s
+
+steps-made : (old : Core) (kinds : List Kind) (new : Core) → Steps old kinds new → new.made ≡ old.made
+steps-made old [] new is = ap (λ c. c.made) is
+steps-made old (kind ∷ kinds) new (mid, answer, woken, s, rest) = steps-made mid kinds new rest ∙ step-made old kind answer woken mid s
+
+-- the reactor's own calls make none
+pub core-steps-made : {old new : Core} → CoreSteps old new → new.made ≡ old.made
+core-steps-made {old} {new} s = steps-made old s.kinds new s.steps
+
+pub visit-made : {E : Type 0} (result : Result Slot E) (wire key : ℕ) (r0 r1 : Option (List Event)) (old new : Core) (c : Opening) (ts : Tags) →
+    IfOk result (λ s. visited.Stays wire key r0 r1 old new c s) → OnErr result (KeepsCall ts r0 r1 old new) → new.made ≡ old.made
+visit-made (Ok s) wire key r0 r1 old new c ts (h, h', calls, o, x) refused = x.made
+visit-made (Err e) wire key r0 r1 old new c ts visits (more, k) = k.made
+
+first-visit-made : (s : Session) (wire : ℕ) (r0 r1 : Option (List Event)) (old new : Core) (c : Slot) → FirstVisits s wire r0 r1 old new c → new.made ≡ old.made
+first-visit-made s wire r0 r1 old new c (undialled asked e is gained same slot says) = ap (λ x. x.made) same
+first-visit-made s wire r0 r1 old new c (dialled asked passes is (talk, client, key, mid, registered)) =
+    let (h, h', calls, o, x) = registered.stays in x.made ∙ ap (λ y. y.made) registered.core
+
+pub first-made : {E : Type 0} (result : Result Slot E) (s : Session) (wire : ℕ) (r0 r1 : Option (List Event)) (old new : Core) (ts : Tags) →
+    IfOk result (λ c. FirstVisits s wire r0 r1 old new c) → OnErr result (KeepsCall ts r0 r1 old new) → new.made ≡ old.made
+first-made (Ok c) s wire r0 r1 old new ts visits refused = first-visit-made s wire r0 r1 old new c visits
+first-made (Err e) s wire r0 r1 old new ts visits (more, k) = k.made
