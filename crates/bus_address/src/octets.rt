@@ -1,9 +1,8 @@
-//! Bytes and texts that an address holds.
+//! Bytes that an address holds.
 
 ghost use Rattle.std.specs.Prelude.{◌≡◌, nat_eq, map, IsTrue};
 ghost use Rattle.std.specs.List.{list_all};
 ghost use Rattle.std.specs.Option.{option_copied};
-ghost use Rattle.std.specs.String.{string_bytes};
 ghost use Rattle.std.specs.Cmp.Lexicographic.{pointwise};
 ghost use Rattle.std.specs.Cmp.Rules.{comparing};
 ghost use Rattle.std.proofs.Common.{rules};
@@ -59,49 +58,6 @@ impl PartialEq for Octets {
 }
 
 impl Eq for Octets {
-    ghost laws = { Prim.search (comparing, rules) };
-}
-
-/// A text, which contracts see as the list of its bytes.
-#[derive(Debug, Drop)]
-pub(crate) struct Text {
-    text: String,
-}
-
-impl Model for Text {
-    ghost use Rattle.std.specs.Prelude.{ℕ, List};
-    ghost use Rattle.std.specs.String.{string_bytes};
-
-    ghost Value = { List ℕ };
-
-    ghost view = { λ t. string_bytes t.text };
-}
-
-impl Text {
-    pub fn from_string(text: String) -> Text
-        ensures { result ≡ string_bytes text }
-    {
-        Text { text }
-    }
-
-    pub fn as_str(&self) -> &str
-        ensures { result.now ≡ self.now }
-    {
-        self.text.as_str()
-    }
-}
-
-impl PartialEq for Text {
-    ghost eq = { pointwise nat_eq };
-
-    ghost laws = { Prim.search (comparing, rules) };
-
-    fn eq(&self, other: &Text) -> bool {
-        self.as_str() == other.as_str()
-    }
-}
-
-impl Eq for Text {
     ghost laws = { Prim.search (comparing, rules) };
 }
 

@@ -6,8 +6,9 @@ ghost use Rattle.std.specs.Option.{option_copied, option_map};
 
 use crate::error::{AddressKind, OutOfMemory};
 use crate::escapes::Escaped;
-use crate::octets::{Octets, Text, has_bytes, has_bytes_if_some};
+use crate::octets::{Octets, has_bytes, has_bytes_if_some};
 use crate::printing::Behind;
+use crate::text::Text;
 use std::alloc::Global;
 use std::fmt;
 use std::marker::Model;

@@ -1,13 +1,13 @@
 -- From a scene that was made of a script to that script.
-use Rattle.std.proofs.Common.{◌≡◌, ℕ, ◌≤◌, Bool, true, false, List, length, map, Option, Result, Ok, Err, nat_lt, if◌then◌else◌, refl, sym, subst, arith}
+use Rattle.std.proofs.Common.{◌≡◌, ℕ, ◌≤◌, Bool, true, false, List, length, Option, Result, Ok, Err, nat_lt, if◌then◌else◌, refl, sym, subst, arith}
 use Rattle.std.specs.Io.KnownBytes.{Consumes, IsAtEnd}
 use Rattle.react_core.specs.declared.outside.Event.{Event}
 use Rattle.bus_script.specs.Script.{Script, Refused, script}
-use Rattle.bus_script.specs.declared.ended.Ended.{Ended}
-use Rattle.bus_peers.specs.declared.session.Session.{Session}
-use Rattle.bus_peers.specs.declared.from_script.Played.{Played}
-use Rattle.bus_peers.specs.Queues.{Queues, queues}
-use Rattle.bus_peers.specs.Reading.{IsOf, session_of}
+use Rattle.bus_session.specs.declared.ended.Ended.{Ended}
+use Rattle.bus_session.specs.declared.session.Session.{Session}
+use Rattle.bus_scene.specs.declared.from_script.Played.{Played}
+use Rattle.bus_scene.specs.Queues.{Queues, queues}
+use Rattle.bus_scene.specs.Reading.{IsOf}
 use Rattle.bus_open.specs.Run.{ComesTo, FollowFrom, Reads, Plays, PollerFails, RunsOut, ScriptRunsOut}
 
 -- What comes of the scene and the sessions comes of the script.
@@ -15,7 +15,7 @@ follow_from : (s : Script) (p : Played) (endeds : List Ended) (events : List Eve
 follow_from s p endeds events starts comes = record {
   rounds = p.rounds;
   given = sym starts.rounds;
-  comes = subst (λ (q : Queues). ComesTo q (map session_of s.sessions) p.rounds endeds events) starts.script
+  comes = subst (λ (q : Queues). ComesTo q s.sessions p.rounds endeds events) starts.script
       (subst (λ (sessions : List Session). ComesTo p.scene.script sessions p.rounds endeds events) starts.sessions comes);
 }
 

@@ -5,13 +5,13 @@ use Rattle.react_core.specs.declared.outside.Event.{Event}
 use Rattle.react_core.specs.Core.{Core}
 use Rattle.react_core.specs.Told.{Rose, told as with_told}
 use Rattle.react_core.specs.declared.reactor.Counter.{Counter}
-use Rattle.bus_script.specs.declared.ended.Ended.{Ended}
-use Rattle.bus_peers.specs.declared.session.Session.{Session}
+use Rattle.bus_session.specs.declared.ended.Ended.{Ended}
+use Rattle.bus_session.specs.declared.session.Session.{Session}
 use Rattle.bus_peers.specs.declared.open.OpenError.{OpenError}
 use Rattle.bus_peers.specs.declared.open.OpenError.TheVariants as open_err
-use Rattle.bus_peers.specs.Queues.{Queues}
-use Rattle.bus_peers.specs.Plays.{Follows, counted, faults_of_poller}
-use Rattle.bus_peers.specs.Faultless.{follows_faultless}
+use Rattle.bus_scene.specs.Queues.{Queues}
+use Rattle.bus_scene.specs.Plays.{Follows, counted, faults_of_poller}
+use Rattle.bus_scene.specs.Faultless.{follows_faultless}
 use Rattle.bus_peers.specs.Headline.{Headline, Opened, Exhausts}
 use Rattle.bus_open.specs.Run.{ComesTo, PollerFails, RunsOut, status_of}
 

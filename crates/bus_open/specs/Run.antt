@@ -1,18 +1,17 @@
 -- What a run of the program does.
-use Rattle.std.specs.Prelude.{◌≡◌, ℕ, ◌≤◌, ◌<◌, ◌+◌, ◌-◌, ◌^◌, ◌⊎◌, Bool, true, false, List, length, map, Option, Some, Ok, Err}
+use Rattle.std.specs.Prelude.{◌≡◌, ℕ, ◌≤◌, ◌<◌, ◌+◌, ◌-◌, ◌^◌, ◌⊎◌, Bool, true, false, List, length, Option, Some, Ok, Err}
 use Rattle.std.specs.List.{list_all}
 use Rattle.std.specs.Io.KnownBytes.{Consumes, IsAtEnd, Keeps}
 use Rattle.react_core.specs.declared.outside.Event.{Event}
 use Rattle.bus_script.specs.Script.{Script, Refused, script, start_of}
-use Rattle.bus_script.specs.declared.ended.Ending.{Ending}
-use Rattle.bus_script.specs.declared.ended.Ending.TheVariants as ending
-use Rattle.bus_script.specs.declared.ended.Ended.{Ended}
-use Rattle.bus_peers.specs.Queues.{Queues, queues}
-use Rattle.bus_peers.specs.Plays.{Follows, HasNoPollerFault, faults_of_poller}
+use Rattle.bus_session.specs.declared.ended.Ending.{Ending}
+use Rattle.bus_session.specs.declared.ended.Ending.TheVariants as ending
+use Rattle.bus_session.specs.declared.ended.Ended.{Ended}
+use Rattle.bus_scene.specs.Queues.{Queues, queues}
+use Rattle.bus_scene.specs.Plays.{Follows, HasNoPollerFault, faults_of_poller}
 use Rattle.bus_peers.specs.declared.open.OpenError.{OpenError}
 use Rattle.bus_peers.specs.declared.open.OpenError.TheVariants as open_err
-use Rattle.bus_peers.specs.declared.session.Session.{Session}
-use Rattle.bus_peers.specs.Reading.{session_of}
+use Rattle.bus_session.specs.declared.session.Session.{Session}
 use Rattle.bus_peers.specs.Headline.{Headline}
 use Rattle.bus_script.specs.Printed.{printed}
 use Rattle.bus_check.specs.declared.kind.Kind.{Kind}
@@ -38,7 +37,7 @@ pub record ComesTo (answers : Queues) (sessions : List Session) (rounds : ℕ) (
 pub record FollowFrom (s : Script) (endeds : List Ended) (events : List Event) : Type 0 where
   pub rounds : ℕ
   pub given : s.rounds ≡ Some rounds
-  pub comes : ComesTo (queues (length s.sessions) s.answers) (map session_of s.sessions) rounds endeds events
+  pub comes : ComesTo (queues (length s.sessions) s.answers) s.sessions rounds endeds events
 
 abbrev pub is_open : Ending → Bool
 is_open (ending.Open guid passes) = true

@@ -16,8 +16,7 @@ pub mod stream;
 mod tests;
 pub mod whole;
 
-use bus_peers::Scene;
-use bus_script::ScriptForm;
+use bus_peers::{Scene, ScriptForm};
 use standard::{StandardInput, StandardOutput};
 use std::process::ExitCode;
 use std::{env, io};

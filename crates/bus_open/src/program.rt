@@ -6,7 +6,7 @@ ghost use Rattle.react_core.specs.Told.{Rose};
 ghost use Rattle.bus_script.specs.Script.{Script, Refused};
 ghost use Rattle.bus_script.specs.Printed.{refusal};
 ghost use Rattle.bus_script.specs.declared.line.Reason.{Reason};
-ghost use Rattle.bus_peers.specs.Queues.{queues};
+ghost use Rattle.bus_scene.specs.Queues.{queues};
 ghost use Rattle.bus_open.specs.Streams.{GainsFront, GainsOrFails, LosesFront};
 ghost use Rattle.bus_open.specs.Commands.{asked};
 ghost use Rattle.bus_open.specs.Run.{Results, Reads, PollerFails, ScriptRunsOut, IsRefused};

@@ -5,9 +5,8 @@ ghost use Rattle.bus_opening.specs.Words.{words};
 ghost use Rattle.bus_opening.specs.declared.command.CommandError.TheVariants.{Handshake, OutOfMemory};
 
 use crate::mechanism::AuthMechanism;
-use crate::text::Text;
 use crate::words::split_word;
-use bus_address::Guid;
+use bus_address::{Guid, Text};
 use hex::FromHexError;
 use react_core::outside::Bytes;
 use std::alloc::{AllocError, Global};

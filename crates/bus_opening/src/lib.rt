@@ -16,7 +16,6 @@ mod part;
 mod printing;
 mod server;
 mod server_answers;
-mod text;
 mod verdict;
 mod words;
 
@@ -26,7 +25,6 @@ pub use config::{ClientConfig, ServerConfig};
 pub use handshake::Handshake;
 pub use mechanism::{AuthMechanism, UnsupportedMechanism};
 pub use server::Server;
-pub use text::Text;
 pub use verdict::{Authenticated, Step, Verdict};
 
 #[cfg(test)]

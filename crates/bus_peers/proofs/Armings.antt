@@ -10,7 +10,7 @@ use Rattle.react_core.specs.declared.outside.Report.{Report}
 use Rattle.react_core.specs.declared.reactor.Dir.{Dir}
 use Rattle.react_core.specs.declared.reactor.Dir.TheVariants.{Read, Write}
 use Rattle.bus_peers.specs.RoundEvents.{Round, round_told}
-use Rattle.bus_peers.specs.Parts.{part}
+use Rattle.bus_session.specs.Parts.{part}
 use Rattle.bus_peers.specs.Registry.{Held, Side, Idle, Waits, Reported, waits, stopped, stopped_held, side_held, held_at, reported_held, after_report_held, after_reports_held, registry, arming, rearming, rearming_of}
 use Rattle.bus_peers.specs.Asking.{Asking, asks, begins, arms_at, asking_at}
 use Rattle.bus_peers.specs.Settled.{is_armed, armed_after, names, AreCalls, waits_in, armings_in}

@@ -13,7 +13,7 @@ use Rattle.react_core.specs.Places.{Source}
 use Rattle.react_core.specs.Core.{Core, ReactorState}
 use Rattle.react_core.specs.Sources.{source_of}
 use Rattle.react_core.specs.Told.{told, told-told}
-use Rattle.bus_script.specs.declared.ended.Ended.{Ended}
+use Rattle.bus_session.specs.declared.ended.Ended.{Ended}
 use Rattle.bus_peers.specs.declared.visiting.Slot.{Slot}
 use Rattle.bus_peers.specs.declared.visiting.Slot.TheVariants as slot
 use Rattle.bus_peers.specs.declared.open.OpenError.{OpenError}

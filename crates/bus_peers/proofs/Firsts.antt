@@ -14,12 +14,12 @@ use Rattle.react_core.specs.Sources.{source_of, with_new, new_source}
 use Rattle.react_core.specs.Told.{told, told-nothing}
 use Rattle.bus_opening.specs.Talk.{Said}
 use Rattle.bus_opening.specs.Openings.{Opening, StandsIn}
-use Rattle.bus_script.specs.declared.ended.Ending.TheVariants as ending
-use Rattle.bus_script.specs.declared.ended.Ended.{Ended}
-use Rattle.bus_peers.specs.declared.session.Session.{Session}
+use Rattle.bus_session.specs.declared.ended.Ending.TheVariants as ending
+use Rattle.bus_session.specs.declared.ended.Ended.{Ended}
+use Rattle.bus_session.specs.declared.session.Session.{Session}
 use Rattle.bus_peers.specs.declared.visiting.Slot.{Slot}
 use Rattle.bus_peers.specs.declared.visiting.Slot.TheVariants as slot
-use Rattle.bus_peers.specs.Dialled.{first_question, conversation}
+use Rattle.bus_session.specs.Dialled.{first_question, conversation}
 use Rattle.bus_peers.specs.Registry.{Idle, held_at, with_held}
 use Rattle.bus_peers.specs.Settled.{waits_in}
 use Rattle.bus_peers.specs.Shown.{AllSane, Rests, shown, Tags, tags, tag_at, without_tag, has_wire, Single}

@@ -17,9 +17,9 @@ use Rattle.bus_opening.specs.declared.verdict.Step.TheVariants as step
 use Rattle.bus_opening.specs.declared.verdict.Step as steps
 use Rattle.bus_opening.specs.declared.verdict.Verdict.{Verdict}
 use Rattle.bus_opening.specs.declared.verdict.Verdict.TheVariants as verdict
-use Rattle.bus_script.specs.declared.ended.Ending.{Ending}
-use Rattle.bus_script.specs.declared.ended.Ending.TheVariants as ending
-use Rattle.bus_script.specs.declared.ended.Ended.{Ended}
+use Rattle.bus_session.specs.declared.ended.Ending.{Ending}
+use Rattle.bus_session.specs.declared.ended.Ending.TheVariants as ending
+use Rattle.bus_session.specs.declared.ended.Ended.{Ended}
 use Rattle.react_core.specs.declared.outside.Opened.{Opened}
 use Rattle.react_core.specs.declared.outside.OutOfMemory.{OutOfMemory}
 use Rattle.bus_peers.specs.declared.visiting.Slot.{Slot}
@@ -28,7 +28,7 @@ use Rattle.bus_peers.specs.declared.visiting.Turn.{Turn}
 use Rattle.bus_peers.specs.declared.visiting.Turn.TheVariants as turn
 use Rattle.bus_opening.specs.Openings.{Opening}
 use Rattle.react_core.specs.declared.outside.Event.{Event}
-use Rattle.bus_peers.specs.declared.session.Session.{Session}
+use Rattle.bus_session.specs.declared.session.Session.{Session}
 use Rattle.bus_peers.specs.Shown.{Tags}
 use Rattle.bus_peers.specs.Visited.{ending_of, KeepsCall, FirstVisits, undialled, dialled}
 use Rattle.bus_peers.specs.Visited as visited

@@ -15,19 +15,19 @@ use Rattle.react_core.specs.Core.{Core, inserted}
 use Rattle.react_core.specs.Told.{told, told-told}
 use Rattle.bus_opening.specs.Talk.{Said}
 use Rattle.bus_opening.specs.Openings.{Opening, StandsIn}
-use Rattle.bus_script.specs.declared.ended.Ending.{Ending}
-use Rattle.bus_script.specs.declared.ended.Ending.TheVariants as ending
-use Rattle.bus_script.specs.declared.ended.Ended.{Ended}
-use Rattle.bus_peers.specs.declared.session.Session.{Session}
+use Rattle.bus_session.specs.declared.ended.Ending.{Ending}
+use Rattle.bus_session.specs.declared.ended.Ending.TheVariants as ending
+use Rattle.bus_session.specs.declared.ended.Ended.{Ended}
+use Rattle.bus_session.specs.declared.session.Session.{Session}
 use Rattle.bus_peers.specs.declared.visiting.Slot.{Slot}
 use Rattle.bus_peers.specs.declared.visiting.Slot.TheVariants as slot
 use Rattle.bus_peers.specs.declared.visiting.Sleeper.{Sleeper}
-use Rattle.bus_peers.specs.Parts.{part}
+use Rattle.bus_session.specs.Parts.{part}
 use Rattle.bus_address.specs.Plain.{plain_path}
-use Rattle.bus_peers.specs.declared.session.Party.{Party}
-use Rattle.bus_peers.specs.declared.session.Party.TheVariants as party
-use Rattle.bus_peers.specs.Dialled.{first_question, conversation, dialled, fails, opens, is_same}
-use Rattle.bus_peers.specs.Alone.{Outcome, dials, goes_through, outcome_of, alone, outcome, HasEnded}
+use Rattle.bus_session.specs.declared.session.Party.{Party}
+use Rattle.bus_session.specs.declared.session.Party.TheVariants as party
+use Rattle.bus_session.specs.Dialled.{first_question, conversation, dialled, fails, opens, is_same}
+use Rattle.bus_session.specs.Alone.{Outcome, dials, goes_through, outcome_of, alone, outcome, HasEnded}
 use Rattle.bus_peers.specs.Headline.{after_begun}
 use Rattle.bus_peers.specs.Registry.{Held, Idle, waits, side_held, held_at, with_held, registry}
 use Rattle.bus_peers.specs.Asking.{asks, begins, last_stop}
@@ -36,8 +36,7 @@ use Rattle.bus_peers.specs.Shown.{Rests, shown}
 use Rattle.bus_peers.specs.Slots.{Talking, Stands, Goes}
 use Rattle.bus_peers.specs.Visited as visited
 use Rattle.bus_peers.specs.Visited.{is_awake, arms_told, stands_at, Pauses, Stays, Stayed, Registered, FirstVisits}
-use Rattle.bus_peers.proofs.PlayLemmas.{bytes_eq-refl}
-use Rattle.bus_peers.proofs.Talks.{part-append, registry-append, last_stop-append, goes-append, waits_in-append, armings_in-append, part-own, part-other, calls-no-armings}
+use Rattle.bus_peers.proofs.Talks.{bytes_eq-refl, part-append, registry-append, last_stop-append, goes-append, waits_in-append, armings_in-append, part-own, part-other, calls-no-armings}
 use Rattle.bus_peers.proofs.Readies.{begun-still}
 use Rattle.bus_peers.proofs.Keeps.{with-keeps, with-here, two-keys, held-key}
 use Rattle.bus_peers.proofs.Armings.{armed-append, calls-arm-none, visit-arms-other, visit-arms-own, arms-counted}

@@ -15,16 +15,16 @@ use Rattle.bus_peers.specs.declared.open.OpenError.{OpenError}
 use Rattle.bus_peers.specs.declared.open.OpenError.TheVariants as open_err
 use Rattle.react_core.specs.Round.{reports_of}
 use Rattle.react_core.specs.Told.{told, told-told, told-nothing}
-use Rattle.bus_script.specs.declared.ended.Ending.{Ending}
-use Rattle.bus_script.specs.declared.ended.Ending.TheVariants as ending
-use Rattle.bus_peers.specs.declared.session.Session.{Session}
+use Rattle.bus_session.specs.declared.ended.Ending.{Ending}
+use Rattle.bus_session.specs.declared.ended.Ending.TheVariants as ending
+use Rattle.bus_session.specs.declared.session.Session.{Session}
 use Rattle.bus_peers.specs.declared.visiting.Slot.{Slot}
 use Rattle.bus_peers.specs.declared.visiting.Slot.TheVariants as slot
 use Rattle.bus_peers.specs.declared.visiting.Sleeper.{Sleeper}
-use Rattle.bus_peers.specs.Parts.{part}
+use Rattle.bus_session.specs.Parts.{part}
 use Rattle.bus_peers.specs.RoundEvents.{Round, round_told}
-use Rattle.bus_peers.specs.Dialled.{first_question}
-use Rattle.bus_peers.specs.Alone.{dials, goes_through, alone, outcome, HasEnded}
+use Rattle.bus_session.specs.Dialled.{first_question}
+use Rattle.bus_session.specs.Alone.{dials, goes_through, alone, outcome, HasEnded}
 use Rattle.bus_peers.specs.Headline.{after_begun}
 use Rattle.bus_peers.specs.Registry.{Held, Side, Idle, Waits, Reported, waits, told_of, side_held, held_at, reported_held, after_report_held, after_reports_held, registry, rearming, rearming_of}
 use Rattle.bus_peers.specs.Asking.{last_stop}

@@ -1,8 +1,3 @@
-pub mod FaultLemmas
-pub mod PlayLemmas
-pub mod QueueLemmas
-pub mod ReadingLemmas
-pub mod WaitLemmas
 pub mod Registries
 pub mod Links
 pub mod Keeps

@@ -8,14 +8,14 @@ use Rattle.react_core.specs.declared.outside.Event.{Event}
 use Rattle.react_core.specs.declared.outside.Event.TheVariants as event
 use Rattle.react_core.specs.Core.{Core, ReactorState}
 use Rattle.react_core.specs.Told.{told, told-told, told-nothing, Rose}
-use Rattle.bus_script.specs.declared.ended.Ended.{Ended}
-use Rattle.bus_peers.specs.declared.session.Session.{Session}
+use Rattle.bus_session.specs.declared.ended.Ended.{Ended}
+use Rattle.bus_session.specs.declared.session.Session.{Session}
 use Rattle.bus_peers.specs.declared.visiting.Slot.{Slot}
 use Rattle.bus_peers.specs.declared.visiting.Slot.TheVariants as slot
 use Rattle.bus_peers.specs.declared.open.OpenError.{OpenError}
 use Rattle.bus_peers.specs.declared.open.OpenError.TheVariants as open_err
-use Rattle.bus_peers.specs.Parts.{is_of, part}
-use Rattle.bus_peers.specs.Alone.{alone, outcome}
+use Rattle.bus_session.specs.Parts.{is_of, part}
+use Rattle.bus_session.specs.Alone.{alone, outcome}
 use Rattle.bus_peers.specs.Registry.{Held}
 use Rattle.bus_peers.specs.Settled.{is_wait, waits_in, removals_of, closing}
 use Rattle.bus_peers.specs.Shown.{shown}

@@ -15,7 +15,7 @@ use Rattle.react_core.specs.Told.{told, told-told, told-nothing}
 use Rattle.bus_opening.specs.Openings.{Opening}
 use Rattle.bus_peers.specs.declared.open.OpenError.{OpenError}
 use Rattle.bus_peers.specs.declared.open.OpenError.TheVariants as open_err
-use Rattle.bus_peers.specs.declared.session.Session.{Session}
+use Rattle.bus_session.specs.declared.session.Session.{Session}
 use Rattle.bus_peers.specs.Registry.{Held, RisesFrom}
 use Rattle.bus_peers.specs.Shown.{shown, Tags, tags, tag_at, without_tag, has_wire, Single, are_below}
 use Rattle.bus_peers.specs.Visited.{tags_after, tail_of, StaysAs, Stays, Registers, FirstTags, FirstVisits, undialled, dialled}

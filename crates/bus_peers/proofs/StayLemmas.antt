@@ -11,8 +11,8 @@ use Rattle.react_core.specs.declared.reactor.ReactError.TheVariants as react_err
 use Rattle.react_core.specs.declared.outside.Event.{Event}
 use Rattle.react_core.specs.declared.outside.Event.TheVariants as event
 use Rattle.bus_opening.specs.Openings.{Opening}
-use Rattle.bus_script.specs.declared.ended.Ending.{Ending}
-use Rattle.bus_script.specs.declared.ended.Ended.{Ended}
+use Rattle.bus_session.specs.declared.ended.Ending.{Ending}
+use Rattle.bus_session.specs.declared.ended.Ended.{Ended}
 use Rattle.bus_peers.specs.declared.visiting.Turn.{Turn}
 use Rattle.bus_peers.specs.declared.visiting.Turn.TheVariants as turn
 use Rattle.bus_peers.specs.declared.visiting.Slot.TheVariants as slot

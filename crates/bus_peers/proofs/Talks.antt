@@ -1,7 +1,8 @@
 -- How the events of one poll go through for the session alone, from any history at which its conversation stands.
-use Rattle.std.proofs.Common.{◌≡◌, ◌≢◌, ℕ, ◌+◌, Bool, true, false, List, [], ◌∷◌, ◌++◌, Option, Some, length, refl, sym, ◌∙◌, ap, subst, inl, inr, arith, nat_le, ◌&&◌}
+use Rattle.std.proofs.Common.{◌≡◌, ◌≢◌, ℕ, ◌+◌, Bool, true, false, eq-eqb, List, [], ◌∷◌, ◌++◌, Option, Some, length, refl, sym, ◌∙◌, ap, subst, inl, inr, arith, nat_le, ◌&&◌}
 use Rattle.std.specs.List.{flat_map}
 use Rattle.std.specs.Option.{option_and_then}
+use Rattle.std.specs.Str.{bytes_eq}
 use Rattle.std.proofs.lemmas.List.{append_assoc, append-nil, length-append}
 use Rattle.std.proofs.lemmas.List.Elements.{filter-append}
 use Rattle.std.proofs.lemmas.List.Sums.{sum_by-append}
@@ -22,16 +23,19 @@ use Rattle.bus_opening.specs.declared.verdict.Verdict.{Verdict}
 use Rattle.bus_opening.specs.declared.verdict.Verdict.TheVariants as verdict
 use Rattle.bus_opening.specs.declared.verdict.Step.{Step}
 use Rattle.bus_opening.specs.declared.verdict.Step.TheVariants as step
-use Rattle.bus_script.specs.declared.ended.Ending.{Ending}
-use Rattle.bus_script.specs.declared.ended.Ending.TheVariants as ending
-use Rattle.bus_peers.specs.declared.session.Party.{Party}
-use Rattle.bus_peers.specs.Parts.{is_of, part}
-use Rattle.bus_peers.specs.Alone.{Progress, converses, after, after_recv, after_send, concluded, goes_through, outcome_of}
+use Rattle.bus_session.specs.declared.ended.Ending.{Ending}
+use Rattle.bus_session.specs.declared.ended.Ending.TheVariants as ending
+use Rattle.bus_session.specs.declared.session.Party.{Party}
+use Rattle.bus_session.specs.Parts.{is_of, part}
+use Rattle.bus_session.specs.Alone.{Progress, converses, after, after_recv, after_send, concluded, goes_through, outcome_of}
 use Rattle.bus_peers.specs.Registry.{Held, held_after, registry, noted}
 use Rattle.bus_peers.specs.Asking.{Asking, asking_next, asks, begins, after_stop, stop_of, last_stop}
 use Rattle.bus_peers.specs.Settled.{IsCall, AreCalls, waits_in, armings_in}
 use Rattle.bus_peers.specs.Visited.{stands_at, EndsAs, GoesOn, ending_of}
-use Rattle.bus_peers.proofs.PlayLemmas.{bytes_eq-refl}
+
+pub bytes_eq-refl : (bytes : List ℕ) → bytes_eq bytes bytes ≡ true
+bytes_eq-refl [] = refl
+bytes_eq-refl (b ∷ bytes) = rw (eq-eqb b b refl) (bytes_eq-refl bytes)
 
 -- ---- one list of events after another
 

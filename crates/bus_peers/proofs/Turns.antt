@@ -13,11 +13,11 @@ use Rattle.bus_opening.specs.declared.verdict.Verdict.{Verdict}
 use Rattle.bus_opening.specs.declared.verdict.Verdict.TheVariants as verdict
 use Rattle.bus_opening.specs.declared.verdict.Step.{Step}
 use Rattle.bus_opening.specs.declared.verdict.Step.TheVariants as step
-use Rattle.bus_script.specs.declared.ended.Ending.{Ending}
+use Rattle.bus_session.specs.declared.ended.Ending.{Ending}
 use Rattle.bus_peers.specs.declared.visiting.Turn.{Turn}
 use Rattle.bus_peers.specs.declared.visiting.Turn.TheVariants as turn
-use Rattle.bus_peers.specs.Parts.{part}
-use Rattle.bus_peers.specs.Alone.{goes_through, outcome_of}
+use Rattle.bus_session.specs.Parts.{part}
+use Rattle.bus_session.specs.Alone.{goes_through, outcome_of}
 use Rattle.bus_peers.specs.Headline.{after_begun}
 use Rattle.bus_peers.specs.Registry.{Held, Side, Idle, Waits, Reported, stopped, waits, side_held, stopped_held, held_at, registry}
 use Rattle.bus_peers.specs.Asking.{asks, begins, arms_at, last_stop}

@@ -4,9 +4,9 @@ use Rattle.react_core.specs.Outer.{Outer, Keeps}
 use Rattle.react_core.specs.Outer as part
 use Rattle.react_core.specs.Told.{Rose}
 use Rattle.react_core.specs.declared.outside.Opened.{Opened}
-use Rattle.bus_script.specs.declared.ended.Ending.{Ending}
-use Rattle.bus_script.specs.declared.ended.Ending.TheVariants as ending
-use Rattle.bus_script.specs.declared.ended.Ended.{Ended}
+use Rattle.bus_session.specs.declared.ended.Ending.{Ending}
+use Rattle.bus_session.specs.declared.ended.Ending.TheVariants as ending
+use Rattle.bus_session.specs.declared.ended.Ended.{Ended}
 use Rattle.bus_peers.specs.declared.visiting.Turn.{Turn}
 use Rattle.bus_peers.specs.declared.visiting.Turn.TheVariants as turn
 use Rattle.bus_peers.specs.declared.visiting.Slot.{Slot}

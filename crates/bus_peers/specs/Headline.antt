@@ -6,14 +6,14 @@ use Rattle.react_core.specs.declared.outside.Event.TheVariants as event
 use Rattle.react_core.specs.declared.reactor.Counter.TheVariants as counter
 use Rattle.react_core.specs.Core.{Core}
 use Rattle.react_core.specs.Told.{Rose}
-use Rattle.bus_script.specs.declared.ended.Ended.{Ended}
-use Rattle.bus_peers.specs.declared.session.Session.{Session}
+use Rattle.bus_session.specs.declared.ended.Ended.{Ended}
+use Rattle.bus_session.specs.declared.session.Session.{Session}
 use Rattle.bus_peers.specs.declared.open.OpenError.{OpenError}
 use Rattle.bus_peers.specs.declared.open.OpenError.TheVariants as open_err
 use Rattle.react_core.specs.declared.reactor.ReactError.{ReactError}
 use Rattle.react_core.specs.declared.reactor.ReactError.TheVariants as react_error
-use Rattle.bus_peers.specs.Parts.{part}
-use Rattle.bus_peers.specs.Alone.{alone, outcome}
+use Rattle.bus_session.specs.Parts.{part}
+use Rattle.bus_session.specs.Alone.{alone, outcome}
 use Rattle.bus_peers.specs.Registry.{registry}
 use Rattle.bus_peers.specs.Settled.{Run, AllRest, Settled, waits_in}
 

@@ -1,13 +1,4 @@
-pub mod Sessions
-pub mod Queues
-pub mod Plays
-pub mod Faultless
-pub mod Cursors
-pub mod Reading
-pub mod Parts
-pub mod Dialled
 pub mod Conversations
-pub mod Alone
 pub mod RoundEvents
 pub mod Registry
 pub mod Asking

@@ -8,8 +8,8 @@ use Rattle.react_core.specs.Core.{Core, HasSource, removed}
 use Rattle.react_core.specs.Sources.{source_of}
 use Rattle.react_core.specs.Round.{reports_of}
 use Rattle.react_core.specs.Told.{told}
-use Rattle.bus_script.specs.declared.ended.Ending.TheVariants as ending
-use Rattle.bus_script.specs.declared.ended.Ended.{Ended}
+use Rattle.bus_session.specs.declared.ended.Ending.TheVariants as ending
+use Rattle.bus_session.specs.declared.ended.Ended.{Ended}
 use Rattle.bus_peers.specs.declared.rounds.Woken.{Woken}
 use Rattle.bus_peers.specs.declared.visiting.Slot.{Slot}
 use Rattle.bus_peers.specs.declared.visiting.Slot.TheVariants as slot

@@ -8,10 +8,10 @@ use Rattle.react_core.specs.declared.outside.Report.{Report}
 use Rattle.react_core.specs.declared.reactor.Dir.{Dir}
 use Rattle.react_core.specs.declared.reactor.Dir.TheVariants.{Read, Write}
 use Rattle.react_core.specs.Round.{reports_of}
-use Rattle.bus_script.specs.declared.ended.Ending.TheVariants as ending
-use Rattle.bus_peers.specs.declared.session.Session.{Session}
-use Rattle.bus_peers.specs.Parts.{part}
-use Rattle.bus_peers.specs.Alone.{Outcome, alone, HasEnded}
+use Rattle.bus_session.specs.declared.ended.Ending.TheVariants as ending
+use Rattle.bus_session.specs.declared.session.Session.{Session}
+use Rattle.bus_session.specs.Parts.{part}
+use Rattle.bus_session.specs.Alone.{Outcome, alone, HasEnded}
 use Rattle.bus_peers.specs.RoundEvents.{Round, IsRound, round_told}
 use Rattle.bus_peers.specs.Registry.{Held, waits, side_held, held_at, registry, rearming, RisesFrom}
 use Rattle.bus_peers.specs.Asking.{asks, begins, last_stop}

@@ -8,16 +8,16 @@ use Rattle.react_core.specs.Core.{Core}
 use Rattle.react_core.specs.Told.{told}
 use Rattle.bus_opening.specs.Talk.{Said}
 use Rattle.bus_opening.specs.Openings.{Opening, StandsIn}
-use Rattle.bus_script.specs.declared.ended.Ending.TheVariants as ending
-use Rattle.bus_peers.specs.declared.session.Session.{Session}
+use Rattle.bus_session.specs.declared.ended.Ending.TheVariants as ending
+use Rattle.bus_session.specs.declared.session.Session.{Session}
 use Rattle.bus_peers.specs.declared.visiting.Slot.{Slot}
 use Rattle.bus_peers.specs.declared.visiting.Slot.TheVariants as slot
 use Rattle.bus_peers.specs.declared.open.OpenError.{OpenError}
 use Rattle.bus_peers.specs.declared.open.OpenError.TheVariants as open_err
 use Rattle.react_core.specs.declared.reactor.Counter.TheVariants as counter
-use Rattle.bus_peers.specs.Parts.{part}
-use Rattle.bus_peers.specs.Dialled.{first_question}
-use Rattle.bus_peers.specs.Alone.{dials, goes_through, alone, outcome}
+use Rattle.bus_session.specs.Parts.{part}
+use Rattle.bus_session.specs.Dialled.{first_question}
+use Rattle.bus_session.specs.Alone.{dials, goes_through, alone, outcome}
 use Rattle.bus_peers.specs.Headline.{after_begun}
 use Rattle.bus_peers.specs.Registry.{Held, waits, side_held, held_at, registry}
 use Rattle.bus_peers.specs.Asking.{last_stop}

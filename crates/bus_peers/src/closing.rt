@@ -16,7 +16,7 @@ ghost use Rattle.bus_peers.specs.Visited.{VisitCounted};
 
 use crate::open::OpenError;
 use crate::visiting::{Slot, ended_of};
-use bus_script::{Ended, Ending};
+use bus_session::{Ended, Ending};
 use react_core::outside::Registrar;
 use react_core::reactor::Reactor;
 use std::alloc::Global;

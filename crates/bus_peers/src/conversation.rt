@@ -3,10 +3,10 @@
 ghost use Rattle.std.specs.Prelude.{◌≡◌, [], false, IfOk};
 ghost use Rattle.bus_opening.specs.Openings.{Opening, StandsIn, written_of, rest_of, ended_of};
 ghost use Rattle.bus_peers.specs.Conversations.{opening_of};
-ghost use Rattle.bus_peers.specs.Dialled.{conversation};
+ghost use Rattle.bus_session.specs.Dialled.{conversation};
 
-use crate::session::Party;
 use bus_opening::{Client, Handshake, Server, Step};
+use bus_session::Party;
 use react_core::outside::{OutOfMemory, Wire};
 use std::alloc::Global;
 use std::marker::Model;

@@ -3,20 +3,14 @@
 
 mod closing;
 mod conversation;
-mod from_script;
 mod open;
-mod queues;
 mod rounds;
-mod scene;
-mod session;
 mod visiting;
 
-pub use bus_script::{Ended, Ending};
-pub use from_script::Played;
+pub use bus_scene::{Played, QueuedAnswers, Scene};
+pub use bus_script::{Reason, ScriptError, ScriptForm};
+pub use bus_session::{Ended, Ending, Party, Session};
 pub use open::{OpenError, open_all};
-pub use queues::QueuedAnswers;
-pub use scene::Scene;
-pub use session::{Party, Session};
 
 #[cfg(test)]
 mod tests;

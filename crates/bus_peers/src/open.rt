@@ -9,16 +9,15 @@ ghost use Rattle.react_core.specs.Told.{told, Rose};
 ghost use Rattle.react_core.specs.declared.outside.Event.{Event};
 ghost use Rattle.bus_peers.specs.Faults.{AllCounted, EndedsCounted};
 ghost use Rattle.bus_peers.specs.Headline.{Opened, RefusedWith, OpenCounted, Completes};
-ghost use Rattle.bus_peers.specs.Sessions.{is_built};
+ghost use Rattle.bus_session.specs.Sessions.{is_built};
 ghost use Rattle.bus_peers.specs.Shown.{Rests, tags};
 ghost use Rattle.bus_peers.specs.Slots.{Owned, AllOpen, Went, Rested, Refuses, Halts};
 ghost use Rattle.bus_peers.specs.Visited.{VisitCounted};
 
 use crate::closing::{endeds_in, remove_sources};
 use crate::rounds::{Nobody, go_rounds};
-use crate::session::Session;
 use crate::visiting::{Slot, first_visit};
-use bus_script::Ended;
+use bus_session::{Ended, Session};
 use react_core::outside::{OutOfMemory, Outside};
 use react_core::reactor::{Counter, ReactError, Reactor};
 use std::alloc::{AllocError, AllocFailed, Global};

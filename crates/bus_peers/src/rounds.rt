@@ -16,8 +16,8 @@ ghost use Rattle.bus_peers.specs.Slots.{Owned, AllOpen, GoesFrom, GoesRound, Goe
 ghost use Rattle.bus_peers.specs.Visited.{VisitCounted};
 
 use crate::open::OpenError;
-use crate::session::Session;
 use crate::visiting::{Sleeper, Slot, visit};
+use bus_session::Session;
 use react_core::outside::{Clock, Outside, Poller, Registrar, Wakes, Wire};
 use react_core::reactor::Reactor;
 use std::alloc::Global;

@@ -7,7 +7,8 @@ use Rattle.std.proofs.lemmas.List.Elements.{All-append}
 use Rattle.std.proofs.lemmas.List.Sums.{AllPass-from_list_all}
 use borrow.Author.Tests.{ltb-false}
 use Rattle.bus_script.specs.Words.{◌>>=◌, words_of}
-use Rattle.bus_script.specs.Forms.{line_of, is_built}
+use Rattle.bus_session.specs.Sessions.{is_built}
+use Rattle.bus_script.specs.Forms.{line_of, is_built_line, is_built_answer}
 use Rattle.bus_script.specs.Script.{Script, add, read_line, read_lines, at_line, built, names_sessions, has_more, later, latest, lines_in, script, empty}
 use Rattle.bus_script.specs.Reading.{GivesAt}
 use Rattle.bus_script.specs.Laws.{HasBuiltSessions, HasBuiltAnswers, NamesItsSessions, IsForward}
@@ -46,14 +47,14 @@ guard_if : {A E : Type 0} (b : Bool) (e : E) (x y : A) → cond b (Ok x) (Err e)
 guard_if true e x y h = (refl, cc)
 guard_if false e x y h = absurd (cc)
 
-built_line : (r : Result Line Reason) (line : Line) → (r >>= built) ≡ Ok line → is_built line ≡ true
+built_line : (r : Result Line Reason) (line : Line) → (r >>= built) ≡ Ok line → is_built_line line ≡ true
 built_line r line h =
     let b = bind_ok r built line h in
-    let p = guard_if (is_built b.0) NotBuilt b.0 line b.2 in
-    subst (λ (l : Line). is_built l ≡ true) p.1 p.0
+    let p = guard_if (is_built_line b.0) NotBuilt b.0 line b.2 in
+    subst (λ (l : Line). is_built_line l ≡ true) p.1 p.0
 
-add_sound : (s s' : Script) (line : Line) → is_built line ≡ true → Sound s → add s line ≡ Ok s' → Sound s'
-unfolding add
+add_sound : (s s' : Script) (line : Line) → is_built_line line ≡ true → Sound s → add s line ≡ Ok s' → Sound s'
+unfolding add is_built_line
 add_sound s s' (lines.Rounds n) good sound h =
     let p = guard_ok (is_some s.rounds) Order (record s { rounds = Some n }) s' h in
     subst Sound p.1 (record { sessions = sound.sessions; answers = sound.answers; names = sound.names; forward = sound.forward })
@@ -65,14 +66,14 @@ add_sound s s' (lines.Session l) good sound h =
     let parts = or_false (is_none s.rounds) (nat_lt 0 (length s.answers)) p.0 in
     let none : s.answers ≡ [] = empty_if s.answers parts.1 in
     let named : AllPass (λ a. names_sessions (length (s.sessions ++ l ∷ [])) a) s.answers = rw none (none_pass (λ a. names_sessions (length (s.sessions ++ l ∷ [])) a)) in
-    subst Sound p.1 (record { sessions = push_pass (λ m. is_built (lines.Session m)) s.sessions l sound.sessions good; answers = sound.answers; names = named; forward = sound.forward })
+    subst Sound p.1 (record { sessions = push_pass is_built s.sessions l sound.sessions good; answers = sound.answers; names = named; forward = sound.forward })
 add_sound s s' (lines.Answer a) good sound h =
     let p = guard_more (is_none s.rounds) Order (cond (not (names_sessions (length s.sessions) a)) (Err Session) (cond (nat_lt (later (latest s.answers) a) (latest s.answers)) (Err Clock) (Ok (record s { answers = s.answers ++ a ∷ [] })))) s' h in
     let q = guard_more (not (names_sessions (length s.sessions) a)) Session (cond (nat_lt (later (latest s.answers) a) (latest s.answers)) (Err Clock) (Ok (record s { answers = s.answers ++ a ∷ [] }))) s' p.1 in
     let r = guard_ok (nat_lt (later (latest s.answers) a) (latest s.answers)) Clock (record s { answers = s.answers ++ a ∷ [] }) s' q.1 in
     let named : names_sessions (length s.sessions) a ≡ true = not_false (names_sessions (length s.sessions) a) q.0 in
     let later_on : latest s.answers ≤ later (latest s.answers) a = ltb-false (later (latest s.answers) a) (latest s.answers) r.0 in
-    subst Sound r.1 (record { sessions = sound.sessions; answers = push_pass (λ b. is_built (lines.Answer b)) s.answers a sound.answers good; names = push_pass (λ b. names_sessions (length s.sessions) b) s.answers a sound.names named; forward = push_forward 0 s.answers a sound.forward later_on })
+    subst Sound r.1 (record { sessions = sound.sessions; answers = push_pass is_built_answer s.answers a sound.answers good; names = push_pass (λ b. names_sessions (length s.sessions) b) s.answers a sound.names named; forward = push_forward 0 s.answers a sound.forward later_on })
 
 lines_sound : (n : ℕ) (s s' : Script) (texts : List (List ℕ)) → Sound s → read_lines n s texts ≡ Ok s' → Sound s'
 unfolding read_lines
@@ -85,7 +86,7 @@ lines_sound n s s' (text ∷ texts) sound h =
     ]
 
 script_sound : (text : List ℕ) (s : Script) → script text ≡ Ok s → Sound s
-script_sound text s h = lines_sound 1 empty s (lines_in text) (record { sessions = none_pass (λ l. is_built (lines.Session l)); answers = none_pass (λ a. is_built (lines.Answer a)); names = none_pass (λ a. names_sessions 0 a); forward = tt }) (script_lines text s h)
+script_sound text s h = lines_sound 1 empty s (lines_in text) (record { sessions = none_pass is_built; answers = none_pass is_built_answer; names = none_pass (λ a. names_sessions 0 a); forward = tt }) (script_lines text s h)
 
 sound_if : (text : List ℕ) (r : Result Script ScriptError) → GivesAt r (script text) → IfOk r Sound
 sound_if text (Ok s) h = script_sound text s h

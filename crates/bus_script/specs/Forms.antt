@@ -1,5 +1,5 @@
 -- The forms of a line, by its words.
-use Rattle.std.specs.Prelude.{ℕ, ◌^◌, ◌-◌, Bool, true, false, List, [], ◌∷◌, length, take, Result, Ok, Err, ◌&&◌, nat_eq, is_none, is_some, ◌==◌, drop, if◌then◌else◌, codes}
+use Rattle.std.specs.Prelude.{ℕ, ◌^◌, ◌-◌, Bool, true, false, List, [], ◌∷◌, length, take, Result, Ok, Err, nat_eq, ◌==◌, drop, if◌then◌else◌, codes}
 use Rattle.std.specs.List.{join_with_byte, ends_with, starts_with}
 use Rattle.std.specs.Option.{ok_or}
 use Rattle.std.specs.Int.{w32, w128, from_be_bytes}
@@ -13,9 +13,10 @@ use Rattle.react_core.specs.declared.outside.RecvAnswer.TheVariants as recvs
 use Rattle.react_core.specs.declared.outside.SendAnswer.{SendAnswer}
 use Rattle.react_core.specs.declared.outside.SendAnswer.TheVariants as sends
 use Rattle.bus_address.specs.Guid.{guid}
-use Rattle.bus_address.specs.Plain.{plain_path}
 use Rattle.bus_opening.specs.Mechanisms.{mechanism}
 use Rattle.bus_opening.specs.declared.mechanism.AuthMechanism.{AuthMechanism}
+use Rattle.bus_session.specs.declared.session.Party.TheVariants as parties
+use Rattle.bus_session.specs.Sessions.{is_built}
 use Rattle.bus_script.specs.Words.{◌>>=◌, ◌is◌, parts_of, number, flag, optional, or_form, bytes}
 use Rattle.bus_script.specs.declared.line.Reason.{Reason}
 use Rattle.bus_script.specs.declared.line.Reason.TheVariants.{Form}
@@ -26,8 +27,6 @@ use Rattle.bus_script.specs.declared.line.ReadySource.TheVariants as sources
 use Rattle.bus_script.specs.declared.line.Ready.{Ready}
 use Rattle.bus_script.specs.declared.line.Answer.{Answer}
 use Rattle.bus_script.specs.declared.line.Answer.TheVariants as answers
-use Rattle.bus_script.specs.declared.line.SessionLine.{SessionLine}
-use Rattle.bus_script.specs.declared.line.SessionLine.TheVariants as sessions
 use Rattle.bus_script.specs.declared.line.Line.{Line}
 use Rattle.bus_script.specs.declared.line.Line.TheVariants as lines
 
@@ -55,7 +54,7 @@ client_line (mech ∷ user ∷ hello ∷ flatpak ∷ deadline ∷ a ∷ address)
   hello ← optional bytes hello
   flatpak ← flag flatpak
   deadline ← optional (number (2 ^ 64)) deadline
-  Ok (lines.Session (sessions.Client (join_with_byte 32 (a ∷ address)) (record { mechanism = mech; user = user; hello = hello; flatpak = flatpak }) deadline))
+  Ok (lines.Session (record { party = parties.Client (join_with_byte 32 (a ∷ address)) (record { mechanism = mech; user = user; hello = hello; flatpak = flatpak }); deadline = deadline }))
 client_line _ = Err Form
 
 abbrev pub guid_word : List ℕ → Result (List ℕ) Reason
@@ -68,7 +67,7 @@ server_line (own ∷ mech ∷ permitted ∷ deadline ∷ []) = do
   mech ← mechanism_word mech
   permitted ← optional (number (2 ^ 32)) permitted
   deadline ← optional (number (2 ^ 64)) deadline
-  Ok (lines.Session (sessions.Server (record { guid = own; mechanism = mech; permitted = permitted }) deadline))
+  Ok (lines.Session (record { party = parties.Server (record { guid = own; mechanism = mech; permitted = permitted }); deadline = deadline }))
 server_line _ = Err Form
 
 -- an IP address: two hexadecimal digits for each byte, the highest byte first
@@ -263,11 +262,6 @@ abbrev pub line_of : List (List ℕ) → Result Line Reason
 line_of [] = Err Form
 line_of (word ∷ rest) = line_with word rest
 
--- no deadline, and for a client a plain path
-unfoldable pub is_built_session : SessionLine → Bool
-is_built_session (sessions.Client address config deadline) = is_none deadline && is_some (plain_path address)
-is_built_session (sessions.Server config deadline) = is_none deadline
-
 abbrev pub is_built_dial : DialAnswer → Bool
 is_built_dial (dials.Opened _) = true
 is_built_dial dials.Failed = true
@@ -284,8 +278,8 @@ is_built_answer (answers.Wait _) = true
 is_built_answer _ = false
 
 -- the forms that are built
-unfoldable pub is_built : Line → Bool
-is_built (lines.Rounds _) = true
-is_built (lines.Session session) = is_built_session session
-is_built (lines.Answer answer) = is_built_answer answer
-is_built _ = false
+unfoldable pub is_built_line : Line → Bool
+is_built_line (lines.Rounds _) = true
+is_built_line (lines.Session session) = is_built session
+is_built_line (lines.Answer answer) = is_built_answer answer
+is_built_line _ = false

@@ -21,9 +21,9 @@ use Rattle.react_core.specs.declared.outside.Event.{Event}
 use Rattle.react_core.specs.declared.outside.Event.TheVariants as events
 use Rattle.bus_script.specs.Reasons.{reason_word}
 use Rattle.bus_script.specs.declared.line.Reason.{Reason}
-use Rattle.bus_script.specs.declared.ended.Ending.{Ending}
-use Rattle.bus_script.specs.declared.ended.Ending.TheVariants as endings
-use Rattle.bus_script.specs.declared.ended.Ended.{Ended}
+use Rattle.bus_session.specs.declared.ended.Ending.{Ending}
+use Rattle.bus_session.specs.declared.ended.Ending.TheVariants as endings
+use Rattle.bus_session.specs.declared.ended.Ended.{Ended}
 
 -- the two digits of a byte
 abbrev pub byte_digits : ℕ → List ℕ

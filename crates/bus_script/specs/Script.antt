@@ -2,12 +2,12 @@
 use Rattle.std.specs.Prelude.{ℕ, ◌+◌, Bool, true, not, List, [], ◌∷◌, ◌++◌, length, fold, Option, Some, None, is_some, is_none, Result, Ok, Err, ◌||◌, nat_lt, nat_eq, if◌then◌else◌, codes, ◌==◌}
 use Rattle.std.specs.List.{list_all, starts_with}
 use Rattle.std.specs.Str.{is_utf8}
+use Rattle.bus_session.specs.declared.session.Session.{Session}
 use Rattle.bus_script.specs.Words.{◌>>=◌, parts_of, words_of}
-use Rattle.bus_script.specs.Forms.{line_of, is_built}
+use Rattle.bus_script.specs.Forms.{line_of, is_built_line}
 use Rattle.bus_script.specs.declared.line.Reason.{Reason}
-use Rattle.bus_script.specs.declared.line.Reason.TheVariants.{NotBuilt, Order, Session, Clock, Length, Text}
+use Rattle.bus_script.specs.declared.line.Reason.TheVariants as reasons
 use Rattle.bus_script.specs.declared.line.Start.{Start}
-use Rattle.bus_script.specs.declared.line.SessionLine.{SessionLine}
 use Rattle.bus_script.specs.declared.line.ReadySource.{ReadySource}
 use Rattle.bus_script.specs.declared.line.ReadySource.TheVariants as sources
 use Rattle.bus_script.specs.declared.line.ScriptWait.TheVariants as waits
@@ -20,7 +20,7 @@ use Rattle.bus_script.specs.declared.line.Line.TheVariants as lines
 pub record Script : Type 0 where
   pub rounds : Option ℕ
   pub start : Option Start
-  pub sessions : List SessionLine
+  pub sessions : List Session
   pub answers : List Answer
 
 -- where and why a text is no script; line 0 is the whole of it
@@ -63,13 +63,13 @@ has_more s = is_some s.start || nat_lt 0 (length s.sessions) || nat_lt 0 (length
 
 -- the script with one more line, or why that line is wrong behind it
 unfoldable pub add : Script → Line → Result Script Reason
-add s (lines.Rounds n) = if is_some s.rounds then Err Order else Ok (record s { rounds = Some n })
-add s (lines.Start tick timer) = if is_none s.rounds || has_more s then Err Order else Ok (record s { start = Some (record { tick = tick; timer = timer }) })
-add s (lines.Session l) = if is_none s.rounds || nat_lt 0 (length s.answers) then Err Order else Ok (record s { sessions = s.sessions ++ l ∷ [] })
+add s (lines.Rounds n) = if is_some s.rounds then Err reasons.Order else Ok (record s { rounds = Some n })
+add s (lines.Start tick timer) = if is_none s.rounds || has_more s then Err reasons.Order else Ok (record s { start = Some (record { tick = tick; timer = timer }) })
+add s (lines.Session l) = if is_none s.rounds || nat_lt 0 (length s.answers) then Err reasons.Order else Ok (record s { sessions = s.sessions ++ l ∷ [] })
 add s (lines.Answer a) =
-    if is_none s.rounds then Err Order
-    else if not (names_sessions (length s.sessions) a) then Err Session
-    else if nat_lt (later (latest s.answers) a) (latest s.answers) then Err Clock
+    if is_none s.rounds then Err reasons.Order
+    else if not (names_sessions (length s.sessions) a) then Err reasons.Session
+    else if nat_lt (later (latest s.answers) a) (latest s.answers) then Err reasons.Clock
     else Ok (record s { answers = s.answers ++ a ∷ [] })
 
 -- empty lines and remarks
@@ -77,7 +77,7 @@ abbrev pub is_skipped : List ℕ → Bool
 is_skipped line = length line == 0 || starts_with nat_eq line (codes "#")
 
 abbrev pub built : Line → Result Line Reason
-built line = if is_built line then Ok line else Err NotBuilt
+built line = if is_built_line line then Ok line else Err reasons.NotBuilt
 
 unfoldable pub read_line : Script → List ℕ → Result Script Reason
 read_line s line = if is_skipped line then Ok s else ((line_of (words_of line) >>= built) >>= add s)
@@ -93,7 +93,7 @@ read_lines n s (line ∷ more) = at_line n (read_line s line) >>= λ s'. read_li
 
 -- a script has its rounds
 abbrev pub whole : Script → Result Script Refused
-whole s = if is_none s.rounds then Err (record { line = 0; reason = Order }) else Ok s
+whole s = if is_none s.rounds then Err (record { line = 0; reason = reasons.Order }) else Ok s
 
 -- Each line is ended by a line feed, which the last may lack: what stands behind the last line feed is an empty line, if nothing else.
 abbrev pub lines_in : List ℕ → List (List ℕ)
@@ -101,6 +101,6 @@ lines_in text = parts_of 10 text
 
 unfoldable pub script : List ℕ → Result Script Refused
 script text =
-    if nat_lt 16777216 (length text) then Err (record { line = 0; reason = Length })
-    else if not (is_utf8 text) then Err (record { line = 0; reason = Text })
+    if nat_lt 16777216 (length text) then Err (record { line = 0; reason = reasons.Length })
+    else if not (is_utf8 text) then Err (record { line = 0; reason = reasons.Text })
     else (read_lines 1 empty (lines_in text) >>= whole)

@@ -7,13 +7,12 @@ ghost use Rattle.bus_script.specs.Reading.{Gives};
 ghost use Rattle.bus_script.specs.Forms.{mechanism_word, guid_word, ip_v4, ip_v6, peer, peer_with, peer_words, found_peers, rounds_line, start_line, client_line, server_line, dial_word, dial_with, dial_output, dial_words, dial_answer, recv_word, recv_with, recv_answer, send_word, send_with, send_answer, without, source, ready, readies, wait_word, wait_with, wait_answer, outcome_word, outcome, dial_line, recv_line, send_line, now_line, poller_line, line_with, line_of};
 ghost use Rattle.bus_script.specs.Forms.{peer_parts};
 
-use crate::line::{
-    Answer, Line, LineError, Readies, Ready, ReadySource, Reason, ScriptWait, SessionLine,
-};
+use crate::line::{Answer, Line, LineError, Readies, Ready, ReadySource, Reason, ScriptWait};
 use crate::number::{number_u16, number_u32, number_u64, number_usize};
 use crate::words::split_peer;
-use bus_address::Guid;
-use bus_opening::{AuthMechanism, ClientConfig, ServerConfig, Text};
+use bus_address::{Guid, Text};
+use bus_opening::{AuthMechanism, ClientConfig, ServerConfig};
+use bus_session::{Party, Session};
 use react_core::outside::{Bytes, DialAnswer, Peer, Peers, RecvAnswer, SendAnswer};
 use std::alloc::{AllocError, Global};
 
@@ -513,9 +512,8 @@ fn client_line(alloc: Global, words: &[&str]) -> Result<Line, LineError>
                 hello,
                 flatpak,
             };
-            Ok(Line::Session(SessionLine::Client {
-                address,
-                config,
+            Ok(Line::Session(Session {
+                party: Party::Client { address, config },
                 deadline,
             }))
         }
@@ -538,7 +536,7 @@ fn server_line(words: &[&str]) -> Result<Line, LineError>
                 mechanism,
                 permitted,
             };
-            Ok(Line::Session(SessionLine::Server { config, deadline }))
+            Ok(Line::Session(Session::server(config, deadline)))
         }
         _ => Err(LineError::Refused(Reason::Form)),
     }

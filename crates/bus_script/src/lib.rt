@@ -4,7 +4,6 @@
 //! of the events.
 #![tactic(auto)]
 
-mod ended;
 mod forms;
 mod line;
 mod number;
@@ -12,10 +11,9 @@ mod print;
 mod reading;
 mod words;
 
-pub use ended::{Ended, Ending};
-pub use line::{Answer, Line, Readies, Ready, ReadySource, Reason, ScriptWait, SessionLine, Start};
+pub use line::{Answer, Line, Readies, Ready, ReadySource, Reason, ScriptWait, Start};
 pub use number::number_below;
-pub use print::{EventLine, printed, refusal};
+pub use print::{EndedLine, EventLine, printed, refusal};
 pub use reading::{Parts, Script, ScriptError, ScriptForm, read};
 
 #[cfg(test)]

@@ -3,7 +3,7 @@
 ghost use Rattle.std.specs.Prelude.{◌≡◌, Some};
 ghost use Rattle.bus_script.specs.declared.line.LineError.TheVariants.{Refused, OutOfMemory};
 
-use bus_opening::{ClientConfig, ServerConfig, Text};
+use bus_session::Session;
 use react_core::outside::{DialAnswer, RecvAnswer, SendAnswer};
 use std::alloc::{AllocError, AllocFailed};
 use std::fmt;
@@ -79,20 +79,6 @@ impl<T: Drop> From<AllocFailed<T>> for LineError {
     fn from(_e: AllocFailed<T>) -> LineError {
         LineError::OutOfMemory
     }
-}
-
-/// A session, as its line gives it. A deadline is a reading of the clock in nanoseconds.
-#[derive(Debug, Drop)]
-pub enum SessionLine {
-    Client {
-        address: Text,
-        config: ClientConfig,
-        deadline: Option<u64>,
-    },
-    Server {
-        config: ServerConfig,
-        deadline: Option<u64>,
-    },
 }
 
 /// Whose source a wait reports: a session's, or that of a key.
@@ -174,6 +160,6 @@ pub struct Start {
 pub enum Line {
     Rounds(u64),
     Start { tick: u64, timer: u64 },
-    Session(SessionLine),
+    Session(Session),
     Answer(Answer),
 }

@@ -5,8 +5,8 @@ ghost use Rattle.std.specs.List.{flat_map};
 ghost use Rattle.hex.specs.Hex.{encode_lower};
 ghost use Rattle.bus_script.specs.Printed.{byte_digits, bytes_word, flag_word, ok_word, directions, peer_word, question_words, dial_words, recv_words, send_words, report_word, wait_words, words_text, event_words, ending_word, ended_words, session_lines, event_lines, printed, refusal};
 
-use crate::ended::{Ended, Ending};
 use crate::line::Reason;
+use bus_session::{Ended, Ending};
 use react_core::outside::{
     Bytes, DialAnswer, Event, OutOfMemory, Peer, Question, RecvAnswer, Report, SendAnswer,
     WaitAnswer,
@@ -329,13 +329,17 @@ impl fmt::Display for EventLine<'_> {
     }
 }
 
-impl fmt::Display for Ending {
-    ghost output = { λ e. Some (ending_word e) };
+/// The word of an ending.
+#[derive(Clone, Copy)]
+struct EndingWord(Ending);
+
+impl fmt::Display for EndingWord {
+    ghost output = { λ e. Some (ending_word e.0) };
 
     fn fmt<W: fmt::Write>(&self, f: &mut fmt::Formatter<W>) -> fmt::Result {
-        match self {
+        match self.0 {
             Ending::Open { guid, cap_unix_fd } => {
-                write!(f, "open:{guid}:{}", flag_word(*cap_unix_fd))
+                write!(f, "open:{guid}:{}", flag_word(cap_unix_fd))
             }
             Ending::Unsupported => f.write_str("unsupported"),
             Ending::Connection => f.write_str("connection"),
@@ -350,15 +354,18 @@ impl fmt::Display for Ending {
 }
 
 /// The line of a session, without its line feed.
-impl fmt::Display for Ended {
-    ghost output = { λ e. Some (words_text (ended_words e)) };
+#[derive(Clone, Copy)]
+pub struct EndedLine<'a>(pub &'a Ended);
+
+impl fmt::Display for EndedLine<'_> {
+    ghost output = { λ e. Some (words_text (ended_words e.0.now)) };
 
     fn fmt<W: fmt::Write>(&self, f: &mut fmt::Formatter<W>) -> fmt::Result {
-        let wire = self.wire;
-        let written = Hex(self.written.as_slice());
-        let leftover = Hex(self.leftover.as_slice());
-        write!(f, "session {wire} {}", self.ending)?;
-        match self.moment {
+        let wire = self.0.wire;
+        let written = Hex(self.0.written.as_slice());
+        let leftover = Hex(self.0.leftover.as_slice());
+        write!(f, "session {wire} {}", EndingWord(self.0.ending))?;
+        match self.0.moment {
             Some(moment) => write!(f, " {written} {leftover} {moment}"),
             None => write!(f, " {written} {leftover} -"),
         }
@@ -369,7 +376,7 @@ fn append_sessions(text: &mut String, endeds: &[Ended]) -> Result<(), OutOfMemor
     ensures { OnOk result (string_bytes text.new ≡ string_bytes text.old ++ session_lines endeds.now) }
 {
     for ended in endeds {
-        writeln!(text, "{ended}")?;
+        writeln!(text, "{}", EndedLine(ended))?;
     }
     Ok(())
 }

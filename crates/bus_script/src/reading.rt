@@ -2,20 +2,17 @@
 
 ghost use Rattle.std.specs.Prelude.{◌≡◌, ◌≤◌, List, length, IfOk, Some, Ok};
 ghost use Rattle.std.specs.List.{list_all};
-ghost use Rattle.bus_script.specs.Forms.{is_built, is_built_session, is_built_answer, is_built_dial};
+ghost use Rattle.bus_script.specs.Forms.{is_built_line, is_built_answer, is_built_dial};
 ghost use Rattle.bus_script.specs.Reading.{Steps, StepsAt, GivesAt, CutsLine};
 ghost use Rattle.bus_script.specs.Shape.{Say, lines_of};
 ghost use Rattle.bus_script.specs.Laws.{HasBuiltSessions, HasBuiltAnswers, NamesItsSessions, IsForward};
 ghost use Rattle.bus_script.specs.Script.{Script, start_of, latest, later, add, is_there, names_sessions, has_more, empty, read_line, at_line, read_lines, whole, script, lines_in, is_skipped};
 
 use crate::forms::line_of;
-use crate::line::{
-    Answer, Line, LineError, Ready, ReadySource, Reason, ScriptWait, SessionLine, Start,
-};
+use crate::line::{Answer, Line, LineError, Ready, ReadySource, Reason, ScriptWait, Start};
 use crate::words::words;
-use bus_address::plain_path;
-use bus_opening::{AuthMechanism, ClientConfig, Text};
-use react_core::outside::{DialAnswer, RecvAnswer};
+use bus_session::Session;
+use react_core::outside::DialAnswer;
 use std::alloc::Global;
 use std::marker::Model;
 use thiserror::Error;
@@ -40,7 +37,7 @@ pub enum ScriptError {
 pub struct Script {
     rounds: u64,
     start: Option<Start>,
-    sessions: Vec<SessionLine>,
+    sessions: Vec<Session>,
     answers: Vec<Answer>,
 }
 
@@ -59,7 +56,7 @@ pub struct Parts {
     pub rounds: u64,
     pub tick: u64,
     pub timer: u64,
-    pub sessions: Vec<SessionLine>,
+    pub sessions: Vec<Session>,
     pub answers: Vec<Answer>,
 }
 
@@ -79,7 +76,7 @@ impl Script {
     }
 
     /// Lends the sessions.
-    pub fn sessions(&self) -> &[SessionLine]
+    pub fn sessions(&self) -> &[Session]
         ensures sessions { result.now ≡ self.now.sessions }
     {
         self.sessions.as_slice()
@@ -116,7 +113,7 @@ impl Script {
 pub(crate) struct Draft {
     rounds: Option<u64>,
     start: Option<Start>,
-    sessions: Vec<SessionLine>,
+    sessions: Vec<Session>,
     answers: Vec<Answer>,
     moment: u64,
 }
@@ -240,7 +237,7 @@ impl Draft {
         }
         let words = words(alloc, line)?;
         let said = line_of(alloc, words.as_slice())?;
-        if !is_built(&said) {
+        if !is_built_line(&said) {
             return Err(LineError::Refused(Reason::NotBuilt));
         }
         self.add(said)
@@ -284,27 +281,14 @@ fn is_skipped(line: &str) -> bool
     line.is_empty() || line.starts_with("#")
 }
 
-#[tactic(auto, unfolding(crate::specs::Forms::is_built_session))]
-fn is_built_session(session: &SessionLine) -> bool
-    ensures { result ≡ is_built_session session.now }
-{
-    match session {
-        SessionLine::Client {
-            address,
-            deadline,
-            ..
-        } => deadline.is_none() && plain_path(address.as_str()).is_some(),
-        SessionLine::Server { deadline, .. } => deadline.is_none(),
-    }
-}
-
-#[tactic(auto, unfolding(crate::specs::Forms::is_built))]
-fn is_built(line: &Line) -> bool
-    ensures { result ≡ is_built line.now }
+/// Whether the line has a form that is built.
+#[tactic(auto, unfolding(crate::specs::Forms::is_built_line))]
+fn is_built_line(line: &Line) -> bool
+    ensures { result ≡ is_built_line line.now }
 {
     match line {
         Line::Rounds(_) => true,
-        Line::Session(session) => is_built_session(session),
+        Line::Session(session) => session.is_built(),
         Line::Answer(answer) => is_built_answer(answer),
         _ => false,
     }

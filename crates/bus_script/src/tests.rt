@@ -5,6 +5,7 @@ use crate::words::words;
 use crate::*;
 use bus_address::Guid;
 use bus_opening::AuthMechanism;
+use bus_session::{Ended, Ending, Party, Session};
 use react_core::outside::{
     Args, Bytes, DialAnswer, Event, Peer, Peers, Question, RecvAnswer, Report, Reports, SendAnswer,
     WaitAnswer,
@@ -270,9 +271,8 @@ fn a_script_gives_its_parts(rt: HostRuntime) -> Result<(), Fail> {
     assert_eq!(rt; parts.tick, 0);
     assert_eq!(rt; parts.timer, 0);
     let Some(
-        SessionLine::Client {
-            address,
-            config,
+        Session {
+            party: Party::Client { address, config },
             deadline,
         },
     ) = parts.sessions.get(1)

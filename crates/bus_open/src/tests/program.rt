@@ -2,8 +2,7 @@
 
 use crate::memory::{MemSink, MemSource};
 use crate::program::run;
-use bus_peers::Scene;
-use bus_script::ScriptForm;
+use bus_peers::{Scene, ScriptForm};
 use std::alloc::Global;
 use std::test::Fail;
 

@@ -1,6 +1,6 @@
 use Rattle.std.proofs.Common.{◌≡◌, sym, Ok}
 use Rattle.bus_script.specs.Script.{Script, script}
-use Rattle.bus_peers.specs.Reading.{IsOf}
+use Rattle.bus_scene.specs.Reading.{IsOf}
 use Rattle.bus_open.proofs.Following.{plays, reads, poller-fails, runs-out}
 use Rattle.bus_open.proofs.playing.play.Goals as goal
 

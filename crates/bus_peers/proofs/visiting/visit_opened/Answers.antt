@@ -1,5 +1,5 @@
 use Rattle.std.proofs.Common.{refl, ap}
-use Rattle.bus_peers.specs.Dialled.{conversation}
+use Rattle.bus_session.specs.Dialled.{conversation}
 use Rattle.bus_peers.proofs.Turns.{on-err}
 use Rattle.bus_peers.proofs.Firsts.{if-ok, refused-by, insert-keeps, inserted-holds, inserted-rests, inserted-keeps, inserted-tags, inserted-registers}
 use Rattle.react_core.specs.Outer.{keeps-same, poller-in-visit}

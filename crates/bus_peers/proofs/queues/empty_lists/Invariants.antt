@@ -1,6 +1,0 @@
-use Rattle.std.proofs.Common.{◌≡◌, [], map, replicate}
-use Rattle.bus_peers.specs.Cursors.{items_of}
-use Rattle.bus_peers.proofs.queues.empty_lists.Given as goal
-
-abbrev pub invariant-loop-session : goal.invariant-loop-session
-invariant-loop-session g l = map items_of l.lists.items ≡ replicate l._session []

@@ -1,7 +1,0 @@
-use Rattle.std.proofs.Common.{◌≡◌, take}
-use Rattle.std.specs.List.{filter_map}
-use Rattle.bus_peers.specs.Cursors.{report_in}
-use Rattle.bus_peers.proofs.scene.reports_in.Given as goal
-
-abbrev pub invariant-loop-ready : goal.invariant-loop-ready
-invariant-loop-ready l = l.named.items ≡ filter_map (report_in l.keys) (take l.ready-index l.readies)

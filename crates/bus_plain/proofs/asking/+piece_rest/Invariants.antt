@@ -1,5 +1,0 @@
-use Rattle.std.proofs.Common.{length}
-use Rattle.bus_plain.proofs.asking.+piece_rest.Given as goal
-
-abbrev pub decreases-piece_rest : goal.decreases-piece_rest
-decreases-piece_rest l = length l.pieces.now

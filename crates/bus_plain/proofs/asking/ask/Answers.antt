@@ -1,6 +1,0 @@
-use Rattle.bus_opening.specs.Talk.{ask}
-use Rattle.bus_plain.proofs.asking.ask.Goals as goal
-
-pub returns : goal.returns
-unfolding ask
-returns c = record { value = c.in_ok-asked.ensures.value }

@@ -1,5 +1,0 @@
-use Rattle.std.proofs.Common.{length}
-use Rattle.bus_plain.proofs.talking.+said_from.Given as goal
-
-abbrev pub decreases-said_from : goal.decreases-said_from
-decreases-said_from l = length l.lines.now

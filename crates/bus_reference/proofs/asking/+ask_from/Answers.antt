@@ -1,0 +1,14 @@
+use Rattle.std.proofs.Common.{arith}
+use Rattle.bus_session.specs.Dialled.{conversation}
+use Rattle.bus_reference.proofs.AskLemmas.{ask_from-some, ask_from-none}
+use Rattle.bus_reference.proofs.asking.+ask_from.Goals as goal
+
+pub returns-in-Some : goal.returns-in-Some
+returns-in-Some t c =
+    let h = rw c.in-Some.is at c.in_ok-asked.ensures.value in
+    record { value = ask_from-some (conversation c.args.party.now c.args.passes) c.args.got.now c.args.taken c.args.more c.args.looked _ h }
+
+pub returns : goal.returns
+returns t c =
+    let h = rw c.in_default.is at c.in_ok-asked.ensures.value in
+    record { value = rw (ask_from-none (conversation c.args.party.now c.args.passes) c.args.got.now c.args.taken c.args.more c.args.looked h (omega arith)) c.ask_from.ensures.value }

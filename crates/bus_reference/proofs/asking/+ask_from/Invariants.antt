@@ -1,0 +1,4 @@
+use Rattle.bus_reference.proofs.asking.+ask_from.Given as goal
+
+abbrev pub decreases-ask_from : goal.decreases-ask_from
+decreases-ask_from l = l.more

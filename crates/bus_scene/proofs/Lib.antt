@@ -1,0 +1,5 @@
+pub mod FaultLemmas
+pub mod PlayLemmas
+pub mod QueueLemmas
+pub mod ReadingLemmas
+pub mod WaitLemmas

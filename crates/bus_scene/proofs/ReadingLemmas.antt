@@ -1,0 +1,33 @@
+-- What is known of a script that is read.
+use Rattle.std.proofs.Common.{◌≡◌, ℕ, ◌+◌, ◌<◌, ◌≤◌, ◌^◌, true, false, List, [], ◌∷◌, length, Ok, refl, sym, ap, ◌∙◌, arith, inl, inr, nat_lt}
+use Rattle.std.specs.Prelude.{is_ok, ◌==◌}
+use Rattle.std.proofs.lemmas.Bool.{true≢false}
+use Rattle.std.proofs.lemmas.Grind.{common_steps}
+use Rattle.std.proofs.lemmas.List.Splits.{length-slice_split}
+use Rattle.std.proofs.lemmas.List.Sums.{count_by-le-length}
+use Rattle.bus_script.specs.Script.{Script, script, lines_in}
+use Rattle.bus_script.specs.Shape.{Say, lines_of}
+use Rattle.bus_script.specs.declared.line.Line.{Line}
+
+-- the lines of a text are no fewer than what they say
+said_few : (texts : List (List ℕ)) (said : List Line) → Say texts said → length said ≤ length texts
+said_few [] said nothing = omega (arith, ap length nothing)
+said_few (text ∷ texts) said (inl skipped) = omega (arith, said_few texts said skipped.1)
+said_few (text ∷ texts) said (inr read) = omega (arith, ap length read.1.2, said_few texts read.1.1 read.1.4)
+
+lines_few : (text : List ℕ) → length (lines_in text) ≤ length text + 1
+lines_few text = omega (arith, length-slice_split (λ b. b == 10) text, count_by-le-length (λ b. b == 10) text)
+
+-- a script has at most 16777216 bytes
+bytes_few : (text : List ℕ) (s : Script) → script text ≡ Ok s → length text ≤ 16777216
+unfolding script
+bytes_few text s is =
+    elim (nat_lt 16777216 (length text)) as (λ b. nat_lt 16777216 (length text) ≡ b → length text ≤ 16777216) [
+      | true ↦ λ long. let wrong : is_ok (script text) ≡ false = rw long refl in absurd (true≢false (sym (ap is_ok is) ∙ wrong))
+      | false ↦ λ short. grind (arith, short)
+    ] refl
+
+pub sessions_few : (text : List ℕ) (s : Script) → script text ≡ Ok s → Say (lines_in text) (lines_of s) → length s.sessions < 2 ^ 32
+sessions_few text s is say =
+    let sessions : length s.sessions ≤ length (lines_of s) = grind (arith, common_steps) in
+    omega (arith, sessions, said_few (lines_in text) (lines_of s) say, lines_few text, bytes_few text s is)

@@ -1,0 +1,11 @@
+use Rattle.std.proofs.Common.{◌≡◌, ◌++◌, map, length}
+use Rattle.std.specs.Vec.Iter.{into_iter_items, into_iter_len}
+use Rattle.bus_scene.specs.Cursors.{whole, left, items_of}
+use Rattle.bus_scene.proofs.queues.queues_of.Given as goal
+
+abbrev pub invariant-loop-answers : goal.invariant-loop-answers
+invariant-loop-answers g l = record {
+  whole : map whole l.queues.items ++ map items_of (into_iter_items l.answers-iterator) ≡ map items_of l.fn.lists.items;
+  left : map left l.queues.items ++ map items_of (into_iter_items l.answers-iterator) ≡ map items_of l.fn.lists.items;
+  counted : into_iter_len l.answers-iterator ≡ length (into_iter_items l.answers-iterator);
+}

@@ -1,0 +1,12 @@
+use Rattle.std.proofs.Common.{◌≡◌, ◌++◌, ◌∷◌, [], refl, arith}
+use Rattle.std.proofs.lemmas.Grind.{common_steps}
+use Rattle.react_core.specs.declared.outside.Event.TheVariants as event
+use Rattle.bus_scene.specs.Cursors.{script_of}
+use Rattle.bus_scene.proofs.FaultLemmas.{keeps_poller}
+use Rattle.bus_scene.proofs.scene.SceneRegistrar.delete.Goals as goal
+
+pub returns-clause-keeps : goal.returns-clause-keeps
+returns-clause-keeps c =
+    let now : c.delete.new.player.told.items ≡ c.args.self.now.told ++ event.Delete c.args.wire c.args.key c.delete.result ∷ [] = grind (arith, common_steps) in
+    let script : script_of c.delete.new.player.answers ≡ c.args.self.now.script = grind (arith, common_steps) in
+    keeps_poller c.args.self.now (record { script = script_of c.delete.new.player.answers; told = c.delete.new.player.told.items }) (event.Delete c.args.wire c.args.key c.delete.result) script now refl (λ w. refl) (λ w. refl)

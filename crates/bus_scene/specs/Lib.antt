@@ -1,0 +1,5 @@
+pub mod Queues
+pub mod Plays
+pub mod Faultless
+pub mod Cursors
+pub mod Reading

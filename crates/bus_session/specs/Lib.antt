@@ -1,0 +1,4 @@
+pub mod Sessions
+pub mod Parts
+pub mod Dialled
+pub mod Alone

@@ -1,0 +1,11 @@
+//! Sessions: who opens a connection, from what, and what comes of it.
+//!
+//! [`Session`] is what is asked for, and [`Ended`] what came of it. `specs/` says what a session comes to by its own
+//! events alone.
+#![tactic(auto)]
+
+mod ended;
+mod session;
+
+pub use ended::{Ended, Ending};
+pub use session::{Party, Session};
