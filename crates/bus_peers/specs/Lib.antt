@@ -2,6 +2,7 @@ pub mod Sessions
 pub mod Queues
 pub mod Plays
 pub mod Faultless
+pub mod Lent
 pub mod Cursors
 pub mod Reading
 pub mod Parts
