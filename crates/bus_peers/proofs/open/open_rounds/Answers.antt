@@ -18,3 +18,6 @@ returns-clause-keeps g c =
 
 pub returns-clause-counted : goal.returns-clause-counted
 returns-clause-counted g c = on_ok_weaker c.go_rounds.result (λ counts. counts _ (fell-all 0 _ _ (c.open_first.ensures.keeps 0)) c.in_ok-open_first.ensures.counted) c.go_rounds.ensures.counted
+
+pub returns-in_err-open_first-clause-keeps : goal.returns-in_err-open_first-clause-keeps
+returns-in_err-open_first-clause-keeps g c = c.open_first.ensures.keeps c.args.reactor.now.events
