@@ -12,34 +12,46 @@ use Rattle.bus_peers.specs.declared.open.OpenError.TheVariants as open_err
 use Rattle.bus_scene.specs.Queues.{Queues}
 use Rattle.bus_scene.specs.Plays.{Follows, counted, faults_of_poller}
 use Rattle.bus_scene.specs.Faultless.{follows_faultless}
+use Rattle.bus_scene.specs.Lent.{follows-each}
+use Rattle.react_core.specs.Outer.{LentRoom}
+use Rattle.react_core.specs.declared.outside.Rooms.{Rooms}
+use Rattle.react_core.specs.declared.outside.Rooms.TheVariants as rooms
 use Rattle.bus_peers.specs.Headline.{Headline, Opened, Exhausts}
-use Rattle.bus_open.specs.Run.{ComesTo, PollerFails, RunsOut, status_of}
+use Rattle.bus_open.specs.Run.{most_reports, FollowsAnswers, ComesTo, PollerFails, RunsOut, status_of}
 
 none_counted : (faults : ℕ) → counted faults ≡ 0 → faults ≡ 0
 none_counted faults none = omega (arith, none)
 
+-- a record that a new scene has told, its waits being lent one room
+pub follows-answers : (answers left : Queues) (before after : Rooms) (room : ℕ) (told shown : List Event) → left ≡ answers → shown ≡ told →
+    before ≡ rooms.Unwaited → room ≡ most_reports → LentRoom room (Some before) (Some after) → Follows after left told → FollowsAnswers answers shown
+follows-answers answers left before after room told shown plays are unwaited most lent follows =
+    let L : Rooms → Type 0 = λ r. LentRoom most_reports (Some r) (Some after) in
+    let lent' : LentRoom most_reports (Some rooms.Unwaited) (Some after) = subst L unwaited (subst (λ (n : ℕ). LentRoom n (Some before) (Some after)) most lent) in
+    let each : FollowsAnswers left told = follows-each most_reports after left told lent' follows in
+    subst (λ (r : List Event). FollowsAnswers answers r) (sym are) (subst (λ (q : Queues). FollowsAnswers q told) plays each)
+
 -- at Ok
-pub comes : (answers left : Queues) (sessions : List Session) (rounds : ℕ) (old new : Core) (endeds : List Ended) (start told shown : List Event) →
-    left ≡ answers → start ≡ [] → shown ≡ told → Follows left told → counted (faults_of_poller told) ≡ counted (faults_of_poller start) →
+pub comes : (answers : Queues) (sessions : List Session) (rounds : ℕ) (old new : Core) (endeds : List Ended) (start told shown : List Event) →
+    start ≡ [] → shown ≡ told → FollowsAnswers answers shown → counted (faults_of_poller told) ≡ counted (faults_of_poller start) →
     ((r : List Event) × (Some told ≡ with_told (Some start) r) × Opened sessions rounds old new endeds r × Unit {0}) → ComesTo answers sessions rounds endeds shown
-comes answers left sessions rounds old new endeds start told shown plays none are follows calm opens = record {
-  follows = subst (λ (r : List Event). Follows answers r) (sym are) (subst (λ (q : Queues). Follows q told) plays follows);
+comes answers sessions rounds old new endeds start told shown none are follows calm opens = record {
+  follows = follows;
   faultless = ap faults_of_poller are ∙ none_counted (faults_of_poller told) (calm ∙ ap (λ t. counted (faults_of_poller t)) none);
   armed = opens.2.armed;
   headline = subst (λ (r : List Event). Headline sessions rounds opens.2.armed endeds r) (sym (are ∙ (same_Some told (start ++ opens.0) opens.1 ∙ ap (λ t. t ++ opens.0) none))) opens.2.headline;
 }
 
 -- where the poller failed
-pub fails : (answers left : Queues) (start told shown : List Event) → left ≡ answers → start ≡ [] → shown ≡ told → Follows left told → Rose (counted (faults_of_poller start)) (counted (faults_of_poller told)) → PollerFails answers
-fails answers left start told shown plays none are follows rose =
-    let here : Follows answers shown = subst (λ (r : List Event). Follows answers r) (sym are) (subst (λ (q : Queues). Follows q told) plays follows) in
+pub fails : (answers : Queues) (start told shown : List Event) → start ≡ [] → shown ≡ told → FollowsAnswers answers shown → Rose (counted (faults_of_poller start)) (counted (faults_of_poller told)) → PollerFails answers
+fails answers start told shown none are follows rose =
     let rose' : Rose 0 (counted (faults_of_poller shown)) = rw are (subst (λ (r : List Event). Rose (counted (faults_of_poller r)) (counted (faults_of_poller told))) none rose) in
     let some : 0 < faults_of_poller shown = omega (arith, rose') in
     record {
       events = shown;
-      follows = here;
+      follows = follows;
       failed = some;
-      faulty = λ calm. omega (arith, some, follows_faultless answers shown calm here);
+      faulty = λ calm. omega (arith, some, follows_faultless (rooms.Each most_reports) answers shown calm follows);
     }
 
 -- which refusals these statuses are

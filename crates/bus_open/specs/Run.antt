@@ -3,6 +3,7 @@ use Rattle.std.specs.Prelude.{◌≡◌, ℕ, ◌≤◌, ◌<◌, ◌+◌, ◌-�
 use Rattle.std.specs.List.{list_all}
 use Rattle.std.specs.Io.KnownBytes.{Consumes, IsAtEnd, Keeps}
 use Rattle.react_core.specs.declared.outside.Event.{Event}
+use Rattle.react_core.specs.declared.outside.Rooms.TheVariants as rooms
 use Rattle.bus_script.specs.Script.{Script, Refused, script, start_of}
 use Rattle.bus_session.specs.declared.ended.Ending.{Ending}
 use Rattle.bus_session.specs.declared.ended.Ending.TheVariants as ending
@@ -24,10 +25,18 @@ pub record WasRead (old new : Option (List ℕ)) (text : List ℕ) : Type 0 wher
   pub taken : Consumes old new text
   pub whole : length text ≤ 16777216 → IsAtEnd new
 
+-- how many reports a wait gives at most
+abbrev pub most_reports : ℕ
+most_reports = 64
+
+-- The record follows from these answers: each event has the next one, and each wait gives as many reports as it may.
+abbrev pub FollowsAnswers : Queues → List Event → Type 0
+FollowsAnswers answers events = Follows (rooms.Each most_reports) answers events
+
 -- What opening these sessions over a new scene of these answers comes to: the record is the scene's, from its first event on,
--- each event has the next answer, no call of the poller failed, and endings and record are what `open_all` promises.
+-- it follows from the answers, no call of the poller failed, and endings and record are what `open_all` promises.
 pub record ComesTo (answers : Queues) (sessions : List Session) (rounds : ℕ) (endeds : List Ended) (events : List Event) : Type 0 where
-  pub follows : Follows answers events
+  pub follows : FollowsAnswers answers events
   pub faultless : faults_of_poller events ≡ 0
   -- so many interests were begun in the reactor
   pub armed : ℕ
@@ -72,7 +81,7 @@ pub data Results (words : List (List ℕ)) (old new : Option (List ℕ)) : Bool 
 -- A call of the poller failed, as an answer of the script has it.
 pub record PollerFails (answers : Queues) : Type 0 where
   pub events : List Event
-  pub follows : Follows answers events
+  pub follows : FollowsAnswers answers events
   pub failed : 0 < faults_of_poller events
   pub faulty : ¬ HasNoPollerFault answers
 

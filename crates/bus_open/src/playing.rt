@@ -5,6 +5,7 @@ ghost use Rattle.std.specs.List.{list_all};
 ghost use Rattle.std.specs.Io.KnownBytes.{Appends, Keeps};
 ghost use Rattle.react_core.specs.Told.{Rose};
 ghost use Rattle.react_core.specs.declared.outside.Event.{Event};
+ghost use Rattle.react_core.specs.declared.outside.Rooms.TheVariants as rooms;
 ghost use Rattle.bus_script.specs.Script.{Script, Refused};
 ghost use Rattle.bus_script.specs.Printed.{printed, refusal};
 ghost use Rattle.bus_session.specs.declared.ended.Ended.{Ended};
@@ -82,6 +83,7 @@ fn status_of(refusal: OpenError) -> u8
 /// Opens the sessions of a script over its scene, and writes how they ended.
 fn perform<K: Sink>(alloc: Global, sink: &mut K, played: Played) -> u8
     requires new { played.scene.told ≡ [] }
+    requires unwaited { played.scene.rooms ≡ rooms.Unwaited }
     requires few { length played.sessions.items < 2 ^ 32 }
     requires built { list_all is_built played.sessions.items ≡ true }
     ensures status { (result ≡ 0) ⊎ (result ≡ 1) ⊎ (result ≡ 4) ⊎ (result ≡ 5) ⊎ (result ≡ 6) ⊎ (result ≡ 7) }

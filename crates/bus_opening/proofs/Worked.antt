@@ -46,7 +46,7 @@ unfolding ask ask_from client talk digits encode_with is_utf8 chars lib.Utf8.enc
 plain-open = refl
 
 plain-left : left (client terms) (K ++ codes "ab") 32 ≡ codes "ab"
-unfolding left looked_from client talk digits is_utf8 chars lib.Utf8.encode
+unfolding left looked_from client talk digits encode_with is_utf8 chars lib.Utf8.encode
 plain-left = refl
 
 long_at_16385 : long (replicate 16385 97) ≡ true
@@ -68,7 +68,7 @@ unfolding ask ask_from client talk digits encode_with is_utf8 chars lib.Utf8.enc
 daily-open = refl
 
 daily-left : left (client daily) (K ++ codes "AGREE_UNIX_FD" ++ 13 ∷ 10 ∷ 108 ∷ 2 ∷ []) 53 ≡ 108 ∷ 2 ∷ []
-unfolding left looked_from client talk digits is_utf8 chars lib.Utf8.encode
+unfolding left looked_from client talk digits encode_with is_utf8 chars lib.Utf8.encode
 daily-left = refl
 
 -- a client that expects another GUID

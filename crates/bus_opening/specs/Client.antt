@@ -2,7 +2,7 @@
 use Rattle.std.specs.Prelude.{ℕ, Bool, true, false, not, ◌&&◌, ◌==◌, if◌then◌else◌, List, [], ◌∷◌, ◌++◌, codes, length, take, slice_index, Option, Some, None, unwrap_or}
 use Rattle.std.specs.Str.{bytes_eq, is_utf8}
 use Rattle.std.specs.Fmt.{decimal}
-use Rattle.bus_opening.specs.Hexadecimal.{hexadecimal}
+use Rattle.hex.specs.Hex.{encode_lower}
 use Rattle.bus_opening.specs.declared.config.ClientConfig.{ClientConfig}
 use Rattle.bus_opening.specs.declared.mechanism.AuthMechanism.{AuthMechanism}
 use Rattle.bus_opening.specs.declared.mechanism.AuthMechanism.TheVariants.{External, Anonymous}
@@ -53,7 +53,7 @@ text_of_line (c ∷ d ∷ more) =
     if (slice_index line (length more) == 13) && is_utf8 text then Some text else None
 
 abbrev pub auth_line : AuthMechanism → ℕ → List ℕ
-auth_line External user = codes "AUTH EXTERNAL " ++ hexadecimal (decimal user)
+auth_line External user = codes "AUTH EXTERNAL " ++ encode_lower (decimal user)
 auth_line Anonymous user = codes "AUTH ANONYMOUS 7a627573"
 
 abbrev pub begin_piece : Settings → List ℕ

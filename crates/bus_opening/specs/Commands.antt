@@ -5,8 +5,7 @@ use Rattle.std.specs.Result.{result_ok}
 use Rattle.std.specs.List.{join_with_byte}
 use Rattle.std.specs.Str.{bytes_eq}
 use Rattle.bus_address.specs.Guid.{guid}
-use Rattle.hex.specs.Hex.{decode_of}
-use Rattle.bus_opening.specs.Hexadecimal.{hexadecimal}
+use Rattle.hex.specs.Hex.{decode_of, encode_lower}
 use Rattle.bus_opening.specs.Mechanisms.{mechanism, name_of}
 use Rattle.bus_opening.specs.Words.{words, trimmed, first_word}
 use Rattle.bus_opening.specs.declared.mechanism.AuthMechanism.{AuthMechanism}
@@ -68,11 +67,11 @@ command text = option_and_then (λ front. option_and_then (λ word. command_of w
 abbrev pub auth_text : Option AuthMechanism → Option (List ℕ) → List ℕ
 auth_text None bytes = codes "AUTH"
 auth_text (Some m) None = codes "AUTH " ++ name_of m
-auth_text (Some m) (Some bytes) = codes "AUTH " ++ (name_of m ++ (codes " " ++ hexadecimal bytes))
+auth_text (Some m) (Some bytes) = codes "AUTH " ++ (name_of m ++ (codes " " ++ encode_lower bytes))
 
 abbrev pub data_text : Option (List ℕ) → List ℕ
 data_text None = codes "DATA"
-data_text (Some bytes) = codes "DATA " ++ hexadecimal bytes
+data_text (Some bytes) = codes "DATA " ++ encode_lower bytes
 
 abbrev pub text_of : Command → List ℕ
 text_of (Auth m bytes) = auth_text m bytes

@@ -1,7 +1,6 @@
 pub mod Limits
 pub mod Mechanisms
 pub mod Words
-pub mod Hexadecimal
 pub mod Commands
 pub mod Reads
 pub mod Lines

@@ -42,6 +42,7 @@ fn mechanism_of(mechanism: Option<AuthMechanism>, tcp: bool) -> AuthMechanism
 }
 
 // The first line with the NUL before it.
+#[tactic(auto, unfolding(hex::specs::Hex::encode_with))]
 fn first_line(alloc: Global, mechanism: AuthMechanism, user: u32) -> Result<Vec<u8>, AllocError>
     ensures { IfOk result (λ v. v.items ≡ 0 ∷ auth_line mechanism user ++ end) }
 {

@@ -9,7 +9,7 @@ use Rattle.react_core.specs.Places.{Source}
 use Rattle.react_core.specs.declared.reactor.Dir.{Dir}
 use Rattle.react_core.specs.Step.{Kind, Answer, Step, PolledPoll, Insert, Remove, Begin, Return, Finish, Polled, Done}
 use Rattle.react_core.specs.Steps.{Steps, CoreSteps}
-use Rattle.react_core.specs.Outer.{Outer, Keeps, keeps-same, keeps-then, wire-in-visit, dial-in-visit, poller-in-visit, visit-in-all, round-in-all}
+use Rattle.react_core.specs.Outer.{Outer, Keeps, NoneFalls, keeps-then, wire-in-visit, dial-in-visit, poller-in-visit, visit-in-all, round-in-all}
 use Rattle.react_core.specs.Outer as part
 use Rattle.react_core.specs.Told.{Rose}
 use Rattle.bus_opening.specs.Polling.{IoCounted}
@@ -33,7 +33,7 @@ use Rattle.bus_peers.specs.Shown.{Tags}
 use Rattle.bus_peers.specs.Visited.{ending_of, KeepsCall, FirstVisits, undialled, dialled}
 use Rattle.bus_peers.specs.Visited as visited
 use Rattle.bus_peers.specs.Rounds.{EndsIn, AllEnd}
-use Rattle.bus_peers.specs.Faults.{EndingCounted, EndedsCounted, DialCounted, TurnCounted, SlotCounted, AllCounted, CountsOn}
+use Rattle.bus_peers.specs.Faults.{NoneFell, EndingCounted, EndedsCounted, DialCounted, TurnCounted, SlotCounted, AllCounted, CountsOn}
 
 -- ---- a count that rose, over a longer stretch
 
@@ -74,8 +74,23 @@ module _ {Origin : Type 0} where
   pub rises-visit : (wire : ℕ) (a b : Outer Origin) → Keeps (part.Visit wire) a b → Rises wire a b
   rises-visit wire a b k = record { wires = k.wires.1; dials = k.dials.1 }
 
-  pub rises-all : (wire : ℕ) (a b : Outer Origin) → Keeps part.All a b → Rises wire a b
+  rises-all : (wire : ℕ) (a b : Outer Origin) → NoneFell a b → Rises wire a b
   rises-all wire a b k = record { wires = k.wires wire; dials = k.dials wire }
+
+  pub fell-all : (room : ℕ) (a b : Outer Origin) → Keeps (part.All room) a b → NoneFell a b
+  fell-all room a b k = record { wires = k.wires; dials = k.dials }
+
+  pub fell-round : (room : ℕ) (a b : Outer Origin) → Keeps (part.Round room) a b → NoneFell a b
+  fell-round room a b k = fell-all room a b (round-in-all room a b k)
+
+  fell-visit : (wire : ℕ) (a b : Outer Origin) → Keeps (part.Visit wire) a b → NoneFell a b
+  fell-visit wire a b k = fell-all 0 a b (visit-in-all wire 0 a b k)
+
+  fell-then : (a b c : Outer Origin) → NoneFell a b → NoneFell b c → NoneFell a c
+  fell-then a b c k l = record {
+    wires = λ w. omega (arith, k.wires w, l.wires w);
+    dials = λ w. omega (arith, k.dials w, l.dials w);
+  }
 
   pub ending-within : (wire : ℕ) (e : Ending) (a b c d : Outer Origin) → Rises wire a b → Rises wire c d → EndingCounted wire e b c → EndingCounted wire e a d
   ending-within wire (ending.Open guid cap_unix_fd) a b c d low high counted = tt
@@ -155,7 +170,7 @@ module _ {Origin : Type 0} where
 
   -- ---- the slots
 
-  pub all-later : (wire : ℕ) (slots : List Slot) (a b c : Outer Origin) → Keeps part.All b c → AllCounted wire slots a b → AllCounted wire slots a c
+  pub all-later : (wire : ℕ) (slots : List Slot) (a b c : Outer Origin) → NoneFell b c → AllCounted wire slots a b → AllCounted wire slots a c
   all-later wire [] a b c k all = tt
   all-later wire (s ∷ slots) a b c k all = (slot-within wire s a a b c (rises-same wire a) (rises-all wire b c k) all.0, all-later (wire + 1) slots a b c k all.1)
 
@@ -167,9 +182,9 @@ module _ {Origin : Type 0} where
   all-append wire at [] s a b is all counted = let C : ℕ → Type 0 = λ w. SlotCounted w s a b in let here : at ≡ wire = omega (arith, is) in (subst C here counted, tt)
   all-append wire at (x ∷ slots) s a b is all counted = (all.0, all-append (wire + 1) at slots s a b (omega (arith, is)) all.1 counted)
 
-  pub all-more : (wire : ℕ) (slots : List Slot) (s : Slot) (a b c : Outer Origin) → wire ≡ length slots → Keeps part.All a b → Keeps (part.Visit wire) b c → AllCounted 0 slots a b → SlotCounted wire s b c → AllCounted 0 (slots ++ s ∷ []) a c
+  pub all-more : (wire : ℕ) (slots : List Slot) (s : Slot) (a b c : Outer Origin) → wire ≡ length slots → NoneFell a b → Keeps (part.Visit wire) b c → AllCounted 0 slots a b → SlotCounted wire s b c → AllCounted 0 (slots ++ s ∷ []) a c
   all-more wire slots s a b c is k l all counted =
-      all-append 0 wire slots s a c (omega (arith, is)) (all-later 0 slots a b c (visit-in-all wire b c l) all) (slot-within wire s a b c c (rises-all wire a b k) (rises-same wire c) counted)
+      all-append 0 wire slots s a c (omega (arith, is)) (all-later 0 slots a b c (fell-visit wire b c l) all) (slot-within wire s a b c c (rises-all wire a b k) (rises-same wire c) counted)
 
   all-set : (wire at : ℕ) (slots : List Slot) (i : ℕ) (s : Slot) (a b : Outer Origin) → at ≡ wire + i → AllCounted wire slots a b → SlotCounted at s a b → AllCounted wire (slice_set slots i s) a b
   all-set wire at [] i s a b is all counted = tt
@@ -179,16 +194,16 @@ module _ {Origin : Type 0} where
   -- a visit of this wire's session
   pub counts-set : (wire : ℕ) (slots : List Slot) (s : Slot) (a b : Outer Origin) → Keeps (part.Visit wire) a b → SlotCounted wire s a b → CountsOn slots (slice_set slots wire s) a b
   counts-set wire slots s a b k counted = λ start before all.
-      all-set 0 wire slots wire s start b (omega arith) (all-later 0 slots start a b (visit-in-all wire a b k) all) (slot-within wire s start a b b (rises-all wire start a before) (rises-same wire b) counted)
+      all-set 0 wire slots wire s start b (omega arith) (all-later 0 slots start a b (fell-visit wire a b k) all) (slot-within wire s start a b b (rises-all wire start a before) (rises-same wire b) counted)
 
-  pub counts-same : (slots : List Slot) (a b : Outer Origin) → Keeps part.All a b → CountsOn slots slots a b
+  pub counts-same : (slots : List Slot) (a b : Outer Origin) → NoneFell a b → CountsOn slots slots a b
   counts-same slots a b k = λ start before all. all-later 0 slots start a b k all
 
   pub counts-none : (slots : List Slot) (a : Outer Origin) → CountsOn slots slots a a
   counts-none slots a = λ start before all. all
 
-  pub counts-then : (slots slots1 slots2 : List Slot) (a b c : Outer Origin) → Keeps part.All a b → CountsOn slots slots1 a b → CountsOn slots1 slots2 b c → CountsOn slots slots2 a c
-  counts-then slots slots1 slots2 a b c k first second = λ start before all. second start (keeps-then part.All start a b before k) (first start before all)
+  pub counts-then : (slots slots1 slots2 : List Slot) (a b c : Outer Origin) → NoneFell a b → CountsOn slots slots1 a b → CountsOn slots1 slots2 b c → CountsOn slots slots2 a c
+  counts-then slots slots1 slots2 a b c k first second = λ start before all. second start (fell-then start a b before k) (first start before all)
 
   -- ---- the endings
 

@@ -1,7 +1,6 @@
 -- Which counts of faults a session's ending shows, whether the outside tells its record or not.
 use Rattle.std.specs.Prelude.{◌≡◌, ◌⊎◌, ℕ, ◌+◌, List, [], ◌∷◌, Option, Some, None, Result, Ok, Err}
-use Rattle.react_core.specs.Outer.{Outer, Keeps}
-use Rattle.react_core.specs.Outer as part
+use Rattle.react_core.specs.Outer.{Outer, NoneFalls}
 use Rattle.react_core.specs.Told.{Rose}
 use Rattle.react_core.specs.declared.outside.Opened.{Opened}
 use Rattle.bus_session.specs.declared.ended.Ending.{Ending}
@@ -55,7 +54,12 @@ abbrev pub AllCounted : {Origin : Type 0} → ℕ → List Slot → Outer Origin
 AllCounted wire [] before after = Unit {0}
 AllCounted wire (c ∷ slots) before after = SlotCounted wire c before after × AllCounted (wire + 1) slots before after
 
+-- no count of a wire or of its dialling fell
+pub record NoneFell {Origin : Type 0} (before after : Outer Origin) : Type 0 where
+  pub wires : NoneFalls before.wire_faults after.wire_faults
+  pub dials : NoneFalls before.dial_faults after.dial_faults
+
 -- whatever the call began with: where the slots were counted from its start to the first moment, those now are to the second
 abbrev pub CountsOn : {Origin : Type 0} → List Slot → List Slot → Outer Origin → Outer Origin → Type 0
 CountsOn {Origin} slots slots' old new =
-    (start : Outer Origin) → Keeps part.All start old → AllCounted 0 slots start old → AllCounted 0 slots' start new
+    (start : Outer Origin) → NoneFell start old → AllCounted 0 slots start old → AllCounted 0 slots' start new

@@ -104,7 +104,7 @@ fn open_first<O: Outside>(
     ensures cause { VisitCounted result ((O.outer outside.old).poller_faults) ((O.outer outside.new).poller_faults) }
     ensures counted { OnOk result (AllCounted 0 slots.new.items (O.outer outside.old) (O.outer outside.new)) }
     ensures timers { reactor.new.core.made ≡ reactor.old.core.made }
-    ensures keeps { Keeps part.All (O.outer outside.old) (O.outer outside.new) }
+    ensures keeps { (room : ℕ) → Keeps (part.All room) (O.outer outside.old) (O.outer outside.new) }
     ensures reports { reactor.new.events ≡ reactor.old.events }
 {
     let mut wire = 0u32;
@@ -139,7 +139,7 @@ fn open_rounds<O: Outside>(
     ensures cause { OpenCounted result ((O.outer outside.old).poller_faults) ((O.outer outside.new).poller_faults) }
     ensures counted { OnOk result (AllCounted 0 slots.new.items (O.outer outside.old) (O.outer outside.new)) }
     ensures timers { reactor.new.core.made ≡ reactor.old.core.made }
-    ensures keeps { Keeps part.All (O.outer outside.old) (O.outer outside.new) }
+    ensures keeps { Keeps (part.All reactor.old.events) (O.outer outside.old) (O.outer outside.new) }
     ensures reports { reactor.new.events ≡ reactor.old.events }
 {
     open_first(alloc, reactor, outside, sessions, slots)?;
@@ -162,7 +162,7 @@ fn open_over<O: Outside>(
     ensures cause { OpenCounted result ((O.outer outside.old).poller_faults) ((O.outer outside.new).poller_faults) }
     ensures faults { IfOk result (λ endeds. EndedsCounted 0 endeds.items (O.outer outside.old) (O.outer outside.new)) }
     ensures timers { reactor.new.core.made ≡ reactor.old.core.made }
-    ensures keeps { Keeps part.All (O.outer outside.old) (O.outer outside.new) }
+    ensures keeps { Keeps (part.All reactor.old.events) (O.outer outside.old) (O.outer outside.new) }
     ensures reports { reactor.new.events ≡ reactor.old.events }
 {
     // How many interests were begun fits its type.
@@ -203,7 +203,7 @@ pub fn open_all<O: Outside>(
     ensures idle { IsIdle reactor.new.core }
     ensures faults { IfOk result (λ endeds. EndedsCounted 0 endeds.items (O.outer outside.old) (O.outer outside.new)) }
     ensures timers { reactor.new.core.made ≡ reactor.old.core.made }
-    ensures keeps { Keeps part.All (O.outer outside.old) (O.outer outside.new) }
+    ensures keeps { Keeps (part.All reactor.old.events) (O.outer outside.old) (O.outer outside.new) }
     ensures reports { reactor.new.events ≡ reactor.old.events }
 {
     open_over(alloc, reactor, outside, &sessions, rounds)

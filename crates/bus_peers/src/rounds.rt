@@ -80,7 +80,7 @@ fn round<O: Clock + Poller>(
     ensures exhausted { OnExhausted result (reactor.new ≡ reactor.old × (O.outer outside.new).events ≡ (O.outer outside.old).events) }
     ensures cause { OpenCounted result ((O.outer outside.old).poller_faults) ((O.outer outside.new).poller_faults) }
     ensures timers { reactor.new.core.made ≡ reactor.old.core.made }
-    ensures keeps { Keeps part.Round (O.outer outside.old) (O.outer outside.new) }
+    ensures keeps { Keeps (part.Round reactor.old.events) (O.outer outside.old) (O.outer outside.new) }
     ensures reports { reactor.new.events ≡ reactor.old.events }
 {
     // The keys of the sources rise, so a report names at most one of them.
@@ -116,7 +116,7 @@ fn visit_slot<O: Wire + Registrar>(
     ensures cause { VisitCounted result ((O.outer outside.old).poller_faults) ((O.outer outside.new).poller_faults) }
     ensures counted { OnOk result (CountsOn slots.old.items slots.new.items (O.outer outside.old) (O.outer outside.new)) }
     ensures timers { reactor.new.core.made ≡ reactor.old.core.made }
-    ensures keeps { Keeps part.All (O.outer outside.old) (O.outer outside.new) }
+    ensures keeps { (room : ℕ) → Keeps (part.All room) (O.outer outside.old) (O.outer outside.new) }
     ensures reports { reactor.new.events ≡ reactor.old.events }
 {
     let slot = mem::replace(&mut slots[wire as usize], Slot::Refused);
@@ -151,7 +151,7 @@ fn visit_woken<O: Wire + Registrar>(
     ensures cause { VisitCounted result ((O.outer outside.old).poller_faults) ((O.outer outside.new).poller_faults) }
     ensures counted { OnOk result (CountsOn slots.old.items slots.new.items (O.outer outside.old) (O.outer outside.new)) }
     ensures timers { reactor.new.core.made ≡ reactor.old.core.made }
-    ensures keeps { Keeps part.All (O.outer outside.old) (O.outer outside.new) }
+    ensures keeps { (room : ℕ) → Keeps (part.All room) (O.outer outside.old) (O.outer outside.new) }
     ensures reports { reactor.new.events ≡ reactor.old.events }
 {
     for wire in woken {
@@ -182,7 +182,7 @@ fn go_round<O: Outside>(
     ensures cause { OpenCounted result ((O.outer outside.old).poller_faults) ((O.outer outside.new).poller_faults) }
     ensures counted { OnOk result (CountsOn slots.old.items slots.new.items (O.outer outside.old) (O.outer outside.new)) }
     ensures timers { reactor.new.core.made ≡ reactor.old.core.made }
-    ensures keeps { Keeps part.All (O.outer outside.old) (O.outer outside.new) }
+    ensures keeps { Keeps (part.All reactor.old.events) (O.outer outside.old) (O.outer outside.new) }
     ensures reports { reactor.new.events ≡ reactor.old.events }
 {
     let woken = round(alloc, reactor, outside)?;
@@ -210,7 +210,7 @@ pub(crate) fn go_rounds<O: Outside>(
     ensures cause { OpenCounted result ((O.outer outside.old).poller_faults) ((O.outer outside.new).poller_faults) }
     ensures counted { OnOk result (CountsOn slots.old.items slots.new.items (O.outer outside.old) (O.outer outside.new)) }
     ensures timers { reactor.new.core.made ≡ reactor.old.core.made }
-    ensures keeps { Keeps part.All (O.outer outside.old) (O.outer outside.new) }
+    ensures keeps { Keeps (part.All reactor.old.events) (O.outer outside.old) (O.outer outside.new) }
     ensures reports { reactor.new.events ≡ reactor.old.events }
 {
     let mut done = 0;

@@ -1,10 +1,10 @@
 -- What one more event does to the counts of faults.
-use Rattle.std.proofs.Common.{◌≡◌, ◌≢◌, ℕ, ◌+◌, Bool, true, false, cond, List, [], ◌∷◌, ◌++◌, refl, sym, subst, ap, ◌∙◌, arith, eq-eqb, Option, Some, None, Result, Ok, Err, length, take}
+use Rattle.std.proofs.Common.{◌≡◌, ◌≢◌, ℕ, ◌+◌, Bool, true, false, cond, List, [], ◌∷◌, ◌++◌, refl, sym, subst, ap, ◌∙◌, arith, eq-eqb, Option, Some, None, Result, Ok, Err, length, take, inr}
 use Rattle.std.specs.Prelude.{count_by, ◌==◌}
 use Rattle.std.proofs.Math.Path.{fun_ext}
 use Rattle.std.proofs.lemmas.List.{append-nil}
 use Rattle.std.proofs.lemmas.List.Sums.{fold-append}
-use Rattle.react_core.specs.Outer.{Part, Keeps, keeps-same}
+use Rattle.react_core.specs.Outer.{with_room, Part, Keeps, keeps-same}
 use Rattle.react_core.specs.Outer as part
 use Rattle.react_core.specs.Told.{Rose, SameBut}
 use Rattle.react_core.specs.declared.outside.Question.{Question}
@@ -20,6 +20,7 @@ use Rattle.react_core.specs.declared.outside.SendAnswer.TheVariants as send_answ
 use Rattle.react_core.specs.declared.outside.Received.{Received}
 use Rattle.react_core.specs.declared.outside.Received.TheVariants as received
 use Rattle.react_core.specs.declared.outside.Report.{Report}
+use Rattle.react_core.specs.declared.outside.Rooms.{Rooms}
 use Rattle.react_core.specs.declared.outside.WaitAnswer.TheVariants as wait_answer
 use Rattle.react_core.specs.declared.outside.Waited.{Waited}
 use Rattle.react_core.specs.declared.outside.Waited.TheVariants as waited
@@ -139,11 +140,16 @@ counted_cause (Ok v) before now c = ap counted c
 counted_cause (Err fault.Failed) before now c = omega (arith, c)
 counted_cause (Err fault.OutOfMemory) before now c = ap counted c
 
+abbrev play : Queues → Rooms → List Event → Play
+play s r t = record { script = s; rooms = r; told = t }
+
+record_of : (s s' : Queues) (r r' : Rooms) (t t' : List Event) → s' ≡ s → r' ≡ r → t' ≡ t → play s' r' t' ≡ play s r t
+record_of s s' r r' t t' a b c = λ i. play (a i) (b i) (c i)
+
 -- nothing was told
-pub keeps_none : (part : Part) (before after : Play) → after.script ≡ before.script → after.told ≡ before.told → Keeps part (outer_of before) (outer_of after)
-keeps_none part before after script told =
-    let P : Queues → List Event → Type 0 = λ q t. Keeps part (outer_of before) (outer_of (record { script = q; told = t })) in
-    subst (λ (t : List Event). P after.script t) (sym told) (subst (λ (q : Queues). P q before.told) (sym script) (keeps-same part (outer_of before)))
+pub keeps_none : (part : Part) (before after : Play) → after.script ≡ before.script → after.rooms ≡ before.rooms → after.told ≡ before.told → Keeps part (outer_of before) (outer_of after)
+keeps_none part before after script rooms told =
+    subst (λ (p : Play). Keeps part (outer_of before) (outer_of p)) (sym (record_of before.script after.script before.rooms after.rooms before.told after.told script rooms told)) (keeps-same part (outer_of before))
 
 abbrev counted_each : (ℕ → ℕ) → ℕ → ℕ
 counted_each f wire = counted (f wire)
@@ -155,37 +161,40 @@ moment_same : (told told' : List Event) (e : Event) → told' ≡ told ++ e ∷ 
 moment_same told told' e now quiet = ap last_reading now ∙ last_reading-last told e ∙ quiet
 
 -- a call of the poller
-pub keeps_poller : (before after : Play) (e : Event) → after.script ≡ before.script → after.told ≡ before.told ++ e ∷ [] →
+pub keeps_poller : (before after : Play) (e : Event) → after.script ≡ before.script → after.rooms ≡ before.rooms → after.told ≡ before.told ++ e ∷ [] →
     later (last_reading before.told) e ≡ last_reading before.told → ((w : ℕ) → is_wire_fault w e ≡ false) → ((w : ℕ) → is_dial_fault w e ≡ false) →
     Keeps part.Poller (outer_of before) (outer_of after)
-keeps_poller before after e script now quiet wires dials = record {
+keeps_poller before after e script rooms now quiet wires dials = record {
   origin = script;
   moment = moment_same before.told after.told e now quiet;
   poller = tt;
   wires = all_counted _ _ (wires_same before.told after.told e now wires);
   dials = all_counted _ _ (dials_same before.told after.told e now dials);
+  rooms = ap Some rooms;
   doors = refl;
   ample = refl;
 }
 
-pub keeps_clock : (before after : Play) (t : ℕ) → after.script ≡ before.script → after.told ≡ before.told ++ event.Now t ∷ [] → Keeps part.Clock (outer_of before) (outer_of after)
-keeps_clock before after t script now = record {
+pub keeps_clock : (before after : Play) (t : ℕ) → after.script ≡ before.script → after.rooms ≡ before.rooms → after.told ≡ before.told ++ event.Now t ∷ [] → Keeps part.Clock (outer_of before) (outer_of after)
+keeps_clock before after t script rooms now = record {
   origin = script;
   moment = tt;
   poller = ap counted (poller_same before.told after.told (event.Now t) now refl);
   wires = all_counted _ _ (wires_same before.told after.told (event.Now t) now (λ w. refl));
   dials = all_counted _ _ (dials_same before.told after.told (event.Now t) now (λ w. refl));
+  rooms = ap Some rooms;
   doors = refl;
   ample = refl;
 }
 
-pub keeps_close : (before after : Play) (wire : ℕ) → after.script ≡ before.script → after.told ≡ before.told ++ event.Close wire ∷ [] → Keeps part.Record (outer_of before) (outer_of after)
-keeps_close before after wire script now = record {
+pub keeps_close : (before after : Play) (wire : ℕ) → after.script ≡ before.script → after.rooms ≡ before.rooms → after.told ≡ before.told ++ event.Close wire ∷ [] → Keeps part.Record (outer_of before) (outer_of after)
+keeps_close before after wire script rooms now = record {
   origin = script;
   moment = moment_same before.told after.told (event.Close wire) now refl;
   poller = ap counted (poller_same before.told after.told (event.Close wire) now refl);
   wires = all_counted _ _ (wires_same before.told after.told (event.Close wire) now (λ w. refl));
   dials = all_counted _ _ (dials_same before.told after.told (event.Close wire) now (λ w. refl));
+  rooms = ap Some rooms;
   doors = refl;
   ample = refl;
 }
@@ -197,14 +206,15 @@ dial_other w wire asked (dial_answer.Nonce bytes) other = refl
 dial_other w wire asked (dial_answer.Output success text) other = refl
 dial_other w wire asked dial_answer.Failed other = other_wire w wire other
 
-pub keeps_dial : (before after : Play) (wire : ℕ) (asked : Question) (a : DialAnswer) → after.script ≡ before.script → after.told ≡ before.told ++ event.Dial wire asked a ∷ [] →
+pub keeps_dial : (before after : Play) (wire : ℕ) (asked : Question) (a : DialAnswer) → after.script ≡ before.script → after.rooms ≡ before.rooms → after.told ≡ before.told ++ event.Dial wire asked a ∷ [] →
     Keeps (part.Dial wire) (outer_of before) (outer_of after)
-keeps_dial before after wire asked a script now = record {
+keeps_dial before after wire asked a script rooms now = record {
   origin = script;
   moment = moment_same before.told after.told (event.Dial wire asked a) now refl;
   poller = ap counted (poller_same before.told after.told (event.Dial wire asked a) now refl);
   wires = all_counted _ _ (wires_same before.told after.told (event.Dial wire asked a) now (λ w. refl));
   dials = λ w other. ap counted (count_same (is_dial_fault w) before.told after.told (event.Dial wire asked a) now (dial_other w wire asked a other));
+  rooms = ap Some rooms;
   doors = refl;
   ample = refl;
 }
@@ -253,36 +263,40 @@ wait_moment told told' timeout reports (Ok waited.Interrupted) now = moment_same
 wait_moment told told' timeout reports (Err fault.Failed) now = moment_same told told' (event.Wait timeout wait_answer.Failed) now refl
 wait_moment told told' timeout reports (Err fault.OutOfMemory) now = ap last_reading (now ∙ append-nil told)
 
-pub keeps_send : (before after : Play) (wire : ℕ) (bytes : List ℕ) (result : Result Sent Fault) → after.script ≡ before.script → after.told ≡ before.told ++ send_told wire bytes result →
+pub keeps_send : (before after : Play) (wire : ℕ) (bytes : List ℕ) (result : Result Sent Fault) → after.script ≡ before.script → after.rooms ≡ before.rooms → after.told ≡ before.told ++ send_told wire bytes result →
     Keeps (part.Wire wire) (outer_of before) (outer_of after)
-keeps_send before after wire bytes result script now = record {
+keeps_send before after wire bytes result script rooms now = record {
   origin = script;
   moment = send_moment before.told after.told wire bytes result now;
   poller = ap counted (send_poller before.told after.told wire bytes result now);
   wires = λ w other. ap counted (send_others before.told after.told wire bytes result now w other);
   dials = all_counted _ _ (send_dials before.told after.told wire bytes result now);
+  rooms = ap Some rooms;
   doors = refl;
   ample = refl;
 }
 
-pub keeps_recv : (before after : Play) (wire : ℕ) (into : List ℕ) (result : Result Received Fault) → after.script ≡ before.script → after.told ≡ before.told ++ recv_told wire into result →
+pub keeps_recv : (before after : Play) (wire : ℕ) (into : List ℕ) (result : Result Received Fault) → after.script ≡ before.script → after.rooms ≡ before.rooms → after.told ≡ before.told ++ recv_told wire into result →
     Keeps (part.Wire wire) (outer_of before) (outer_of after)
-keeps_recv before after wire into result script now = record {
+keeps_recv before after wire into result script rooms now = record {
   origin = script;
   moment = recv_moment before.told after.told wire into result now;
   poller = ap counted (recv_poller before.told after.told wire into result now);
   wires = λ w other. ap counted (recv_others before.told after.told wire into result now w other);
   dials = all_counted _ _ (recv_dials before.told after.told wire into result now);
+  rooms = ap Some rooms;
   doors = refl;
   ample = refl;
 }
 
-pub keeps_wait : (before after : Play) (timeout : Option ℕ) (reports : List Report) (result : Result Waited Fault) → after.script ≡ before.script → after.told ≡ before.told ++ wait_told timeout reports result →
-    Keeps part.Poller (outer_of before) (outer_of after)
-keeps_wait before after timeout reports result script now = record {
+pub keeps_wait : (before after : Play) (room : ℕ) (timeout : Option ℕ) (reports : List Report) (result : Result Waited Fault) →
+    after.script ≡ before.script → after.rooms ≡ with_room before.rooms room → after.told ≡ before.told ++ wait_told timeout reports result →
+    Keeps (part.Wait room) (outer_of before) (outer_of after)
+keeps_wait before after room timeout reports result script rooms now = record {
   origin = script;
   moment = wait_moment before.told after.told timeout reports result now;
   poller = tt;
+  rooms = inr (ap Some rooms);
   wires = all_counted _ _ (wait_wires before.told after.told timeout reports result now);
   dials = all_counted _ _ (wait_dials before.told after.told timeout reports result now);
   doors = refl;

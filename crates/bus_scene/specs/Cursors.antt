@@ -15,6 +15,7 @@ use Rattle.react_core.specs.declared.outside.Report.{Report}
 use Rattle.bus_script.specs.declared.line.Ready.{Ready}
 use Rattle.bus_script.specs.declared.line.ReadySource.{ReadySource}
 use Rattle.bus_script.specs.declared.line.ReadySource.TheVariants as source
+use Rattle.react_core.specs.declared.outside.Rooms.{Rooms}
 use Rattle.bus_scene.specs.Queues.{Queues}
 use Rattle.bus_scene.specs.Plays.{played, last_reading, source_key, report_with}
 use Rattle.bus_scene.specs.declared.queues.Queue.{Queue}
@@ -106,14 +107,14 @@ queues_in q = record {
 
 -- The queues that are left are what is left of the script's after the record; the last reading and the sources' keys are
 -- those that the record tells.
-pub record Plays (a : Answers) (told : List Event) (keys : List (Option ℕ)) (last : ℕ) : Type 0 where
-  pub played : played (script_of a) told ≡ Some (rest_of a)
+pub record Plays (rooms : Rooms) (a : Answers) (told : List Event) (keys : List (Option ℕ)) (last : ℕ) : Type 0 where
+  pub played : played rooms (script_of a) told ≡ Some (rest_of a)
   pub reading : last ≡ last_reading told
   pub sources : (session : ℕ) → session < length keys → slice_index_or keys session None ≡ source_key told session
   pub sessions : length keys ≡ length a.dials.items
 
 abbrev pub IsPlaying : Player → Type 0
-IsPlaying p = Plays p.answers p.told.items p.keys.items p.last
+IsPlaying p = Plays p.rooms p.answers p.told.items p.keys.items p.last
 
 -- what an answer to a send comes to
 abbrev pub sent_of : SendAnswer → Result Sent Fault

@@ -4,6 +4,8 @@ use Rattle.std.specs.List.{filter_map, list_all, starts_with}
 use Rattle.std.specs.Str.{bytes_eq}
 use Rattle.std.proofs.Common.{arith}
 use Rattle.react_core.specs.Outer.{Outer, CountsFit}
+use Rattle.react_core.specs.declared.outside.Rooms.{Rooms}
+use Rattle.react_core.specs.declared.outside.Rooms.TheVariants as rooms
 use Rattle.react_core.specs.declared.outside.Event.{Event}
 use Rattle.react_core.specs.declared.outside.Event.TheVariants as event
 use Rattle.react_core.specs.declared.outside.Fault.{Fault}
@@ -168,14 +170,32 @@ send_eq a a' = false
 abbrev pub report_eq : Report → Report → Bool
 report_eq r r' = r.key == r'.key && (bool_eq r.read r'.read && bool_eq r.write r'.write)
 
--- Whether a wait answers what its queue says. An event doesn't name the room that the caller had: its reports are a front
--- of those that the answer names.
+-- Whether so many reports fill the room of the waits so far, where so many are named. Where rooms differed, any front does.
+abbrev pub fills : Rooms → ℕ → ℕ → Bool
+fills rooms.Unwaited count named = false
+fills (rooms.Each room) count named = count == min room named
+fills rooms.Differ count named = true
+
+-- the same of an answer
+abbrev pub is_filled : Rooms → ℕ → List Event → Option ScriptWait → WaitAnswer → Bool
+is_filled rooms.Unwaited sessions told given answer = false
+is_filled r sessions told (Some (script_wait.Reported readies)) (wait_answer.Reported reports) =
+    fills r (length reports) (length (reports_of sessions told readies))
+is_filled r sessions told given answer = true
+
+-- Whether a wait answers what its queue says, but for the room: its reports are a front of those that the answer names.
 abbrev pub is_wait_given : ℕ → List Event → Option ScriptWait → WaitAnswer → Bool
 is_wait_given sessions told None (wait_answer.Reported reports) = length reports == 0
 is_wait_given sessions told (Some (script_wait.Reported readies)) (wait_answer.Reported reports) = starts_with report_eq (reports_of sessions told readies) reports
 is_wait_given sessions told (Some script_wait.Interrupted) wait_answer.Interrupted = true
 is_wait_given sessions told (Some script_wait.Failed) wait_answer.Failed = true
 is_wait_given sessions told asked a = false
+
+-- a wait of this room is among those that were lent these rooms
+abbrev pub IsLent : Rooms → ℕ → Type 0
+IsLent rooms.Unwaited room = ⊥
+IsLent (rooms.Each each) room = each ≡ room
+IsLent rooms.Differ room = Unit {0}
 
 -- The answer to a wait that is lent so much room, exactly: of the reports that name a source, the first ones up to the room.
 abbrev pub wait_given : ℕ → ℕ → List Event → Option ScriptWait → WaitAnswer
@@ -190,41 +210,46 @@ abbrev pub only_if : {X : Type 0} → Bool → X → Option X
 only_if true x = Some x
 only_if false x = None
 
--- the queues after an event, if it has the next answer of its queue; `told` is the record before it
-abbrev pub next : List Event → Queues → Event → Option Queues
-next told q (event.Dial wire asked a) =
+-- The queues after an event, if it has the next answer of its queue. The waits were lent these rooms; `told` is the record
+-- before the event.
+abbrev pub next : Rooms → List Event → Queues → Event → Option Queues
+next r told q (event.Dial wire asked a) =
     only_if (dial_eq (dial_given asked (next_answer (queue_at q.dials wire))) a) (record q { dials = without_next q.dials wire })
-next told q (event.Recv wire asked a) =
+next r told q (event.Recv wire asked a) =
     only_if (recv_eq (recv_given asked (next_answer (queue_at q.recvs wire))) a) (record q { recvs = after_recv asked q.recvs wire })
-next told q (event.Send wire offered a) =
+next r told q (event.Send wire offered a) =
     only_if (send_eq (send_given (length offered) (next_answer (queue_at q.sends wire))) a) (record q { sends = without_next q.sends wire })
-next told q (event.Close wire) = Some q
-next told q (event.Now t) = only_if (reading_given (last_reading told) (next_answer q.nows) == t) (record q { nows = drop 1 q.nows })
-next told q (event.Add wire key ok) = only_if (bool_eq (outcome_given (next_answer q.adds)) ok) (record q { adds = drop 1 q.adds })
-next told q (event.Modify wire key read write ok) = only_if (bool_eq (outcome_given (next_answer q.modifies)) ok) (record q { modifies = drop 1 q.modifies })
-next told q (event.Delete wire key ok) = only_if (bool_eq (outcome_given (next_answer q.deletes)) ok) (record q { deletes = drop 1 q.deletes })
-next told q (event.Notify ok) = only_if (bool_eq (outcome_given (next_answer q.notifies)) ok) (record q { notifies = drop 1 q.notifies })
-next told q (event.Wait timeout a) = only_if (is_wait_given (length q.dials) told (next_answer q.waits) a) (record q { waits = drop 1 q.waits })
+next r told q (event.Close wire) = Some q
+next r told q (event.Now t) = only_if (reading_given (last_reading told) (next_answer q.nows) == t) (record q { nows = drop 1 q.nows })
+next r told q (event.Add wire key ok) = only_if (bool_eq (outcome_given (next_answer q.adds)) ok) (record q { adds = drop 1 q.adds })
+next r told q (event.Modify wire key read write ok) = only_if (bool_eq (outcome_given (next_answer q.modifies)) ok) (record q { modifies = drop 1 q.modifies })
+next r told q (event.Delete wire key ok) = only_if (bool_eq (outcome_given (next_answer q.deletes)) ok) (record q { deletes = drop 1 q.deletes })
+next r told q (event.Notify ok) = only_if (bool_eq (outcome_given (next_answer q.notifies)) ok) (record q { notifies = drop 1 q.notifies })
+next r told q (event.Wait timeout a) =
+    only_if (is_wait_given (length q.dials) told (next_answer q.waits) a && is_filled r (length q.dials) told (next_answer q.waits) a)
+    (record q { waits = drop 1 q.waits })
 
-abbrev pub next_of : List Event → Option Queues → Event → Option Queues
-next_of told None e = None
-next_of told (Some q) e = next told q e
+abbrev pub next_of : Rooms → List Event → Option Queues → Event → Option Queues
+next_of r told None e = None
+next_of r told (Some q) e = next r told q e
 
 -- the queues after these events, which come behind the record `told`
-abbrev pub played_from : List Event → Option Queues → List Event → Option Queues
-played_from told q [] = q
-played_from told q (e ∷ events) = played_from (told ++ e ∷ []) (next_of told q e) events
+abbrev pub played_from : Rooms → List Event → Option Queues → List Event → Option Queues
+played_from r told q [] = q
+played_from r told q (e ∷ events) = played_from r (told ++ e ∷ []) (next_of r told q e) events
 
 -- what is left of a script's queues after a whole record, if each event has the next answer of its queue
-abbrev pub played : Queues → List Event → Option Queues
-played script told = played_from [] (Some script) told
+abbrev pub played : Rooms → Queues → List Event → Option Queues
+played r script told = played_from r [] (Some script) told
 
-abbrev pub Follows : Queues → List Event → Type 0
-Follows script told = is_some (played script told) ≡ true
+-- The record follows from the script, its waits being lent these rooms.
+abbrev pub Follows : Rooms → Queues → List Event → Type 0
+Follows r script told = is_some (played r script told) ≡ true
 
--- a script, and the record of its play so far
+-- a script, and the play so far: the rooms that its waits were lent, and the record
 pub record Play : Type 0 where
   pub script : Queues
+  pub rooms : Rooms
   pub told : List Event
 
 -- what holds where the answer is not want of memory
@@ -235,7 +260,7 @@ OnAnswer (Err fault.OutOfMemory) P = Unit {0}
 
 abbrev pub GainsWait : ℕ → Option ℕ → Play → Play → Type 0
 GainsWait room timeout before after =
-    (left : Queues) × (played before.script before.told ≡ Some left)
+    (left : Queues) × (played before.rooms before.script before.told ≡ Some left)
     × (after.told ≡ before.told ++ event.Wait timeout (wait_given room (length left.dials) before.told (next_answer left.waits)) ∷ [])
 
 -- A wait that is lent so much room: what the script has left is due, and the record gains the event with its next answer.
@@ -284,6 +309,7 @@ outer_of p = record {
   events = Some p.told;
   moment = last_reading p.told;
   poller_faults = counted (faults_of_poller p.told);
+  rooms = Some p.rooms;
   wire_faults = λ wire. counted (faults_of_wire p.told wire);
   dial_faults = λ wire. counted (faults_of_dials p.told wire);
   doors = record { faults = 0; arrivals = [] };

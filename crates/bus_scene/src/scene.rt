@@ -5,14 +5,15 @@
 ghost use Rattle.std.specs.Prelude.{◌≡◌, ◌++◌, ◌∷◌, [], ◌<◌, ◌≤◌, ◌+◌, List, Option, Some, None, true, false, length, map, replicate, take, vec_len, vec_capacity, slice_set, IfOk, OnOk};
 ghost use Rattle.std.specs.Option.{option_copied, option_to_list};
 ghost use Rattle.std.specs.List.{filter_map};
-ghost use Rattle.react_core.specs.Outer.{Keeps};
+ghost use Rattle.react_core.specs.Outer.{Keeps, with_room, lent};
+ghost use Rattle.react_core.specs.declared.outside.Rooms.TheVariants as rooms;
 ghost use Rattle.react_core.specs.Outer as part;
 ghost use Rattle.react_core.specs.Told.{told as with_told, send_told, recv_told, wait_told, IsSent, IsReceived, IsWaited, Counted, OnLack};
 ghost use Rattle.react_core.specs.declared.outside.Event.{Event};
 ghost use Rattle.react_core.specs.declared.outside.Event.TheVariants as event;
 ghost use Rattle.react_core.specs.declared.outside.Question.TheVariants as question;
 ghost use Rattle.bus_scene.specs.Queues.{queue_at, next_answer};
-ghost use Rattle.bus_scene.specs.Plays.{Follows, last_reading, reading_given, outcome_given, send_given, recv_given, is_wait_given, wait_given, asks_for_wire, outer_of, OnAnswer, AnswersWait};
+ghost use Rattle.bus_scene.specs.Plays.{Follows, last_reading, reading_given, outcome_given, send_given, recv_given, is_wait_given, is_filled, IsLent, wait_given, asks_for_wire, outer_of, OnAnswer, AnswersWait};
 ghost use Rattle.bus_scene.specs.Cursors.{left, left_reads, script_of, IsPlaying, sent_of, passes_in, dialled, key_in, report_in};
 
 use crate::queues::{
@@ -21,7 +22,7 @@ use crate::queues::{
 use bus_script::{Ready, ReadySource, ScriptWait};
 use react_core::outside::{
     Bytes, Clock, DialAnswer, Dialer, Event, Fault, Notifier, Opened, OutOfMemory, Outside, Poller,
-    Question, Received, RecvAnswer, Registrar, Report, Reports, SendAnswer, Sent, Tells,
+    Question, Received, RecvAnswer, Registrar, Report, Reports, Rooms, SendAnswer, Sent, Tells,
     WaitAnswer, Waited, Waiter, Wire,
 };
 use std::alloc::Global;
@@ -35,6 +36,8 @@ pub(crate) struct Player {
     keys: Vec<Option<usize>>,
     /// The last reading of the clock, in nanoseconds.
     last: u64,
+    /// The room for reports that its waits were lent.
+    rooms: Rooms,
     told: Vec<Event>,
 }
 
@@ -52,7 +55,7 @@ impl Model for Scene {
 
     ghost use Rattle.bus_scene.specs.Cursors.{script_of, IsPlaying};
 
-    ghost view = { λ s. record { script = script_of s.player.answers; told = s.player.told.items } };
+    ghost view = { λ s. record { script = script_of s.player.answers; rooms = s.player.rooms; told = s.player.told.items } };
 
     ghost invariant = { λ s. IsPlaying s.player };
 }
@@ -72,7 +75,7 @@ impl Scene {
     /// A scene that has told nothing.
     #[tactic(auto, using(crate::proofs::PlayLemmas::plays_nothing))]
     pub(crate) fn new(alloc: Global, script: QueuedAnswers) -> Result<Scene, OutOfMemory>
-        ensures { IfOk result (λ scene. scene ≡ record { script = script; told = [] }) }
+        ensures { IfOk result (λ scene. scene ≡ record { script = script; rooms = rooms.Unwaited; told = [] }) }
     {
         let keys = no_keys(alloc, script.sessions())?;
         let answers = Answers::new(alloc, script)?;
@@ -80,6 +83,7 @@ impl Scene {
             answers,
             keys,
             last: 0,
+            rooms: Rooms::Unwaited,
             told: Vec::new(alloc),
         };
         Ok(Scene { alloc, player })
@@ -88,7 +92,7 @@ impl Scene {
     /// Lends the record: each call so far with its question and its answer, in order.
     pub fn events(&self) -> &[Event]
         ensures told { result.now ≡ self.now.told }
-        ensures follows { Follows self.now.script self.now.told }
+        ensures follows { Follows self.now.rooms self.now.script self.now.told }
     {
         self.player.told.as_slice()
     }
@@ -136,6 +140,7 @@ fn read_clock(player: &mut Player) -> u64
     ensures playing { IsPlaying player.new }
     ensures forward { last_reading player.old.told.items ≤ result }
     ensures script { script_of player.new.answers ≡ script_of player.old.answers }
+    ensures rooms { player.new.rooms ≡ player.old.rooms }
     ensures told { player.new.told.items ≡ player.old.told.items ++ event.Now result ∷ [] }
 {
     let moment = reading(&player.answers.nows, player.last);
@@ -169,6 +174,7 @@ fn add(player: &mut Player, wire: u32, key: usize) -> bool
     requires room { vec_len player.old.told < vec_capacity player.old.told }
     ensures playing { IsPlaying player.new }
     ensures script { script_of player.new.answers ≡ script_of player.old.answers }
+    ensures rooms { player.new.rooms ≡ player.old.rooms }
     ensures told { player.new.told.items ≡ player.old.told.items ++ event.Add wire key result ∷ [] }
 {
     let ok = outcome(&player.answers.adds);
@@ -183,6 +189,7 @@ fn modify(player: &mut Player, wire: u32, key: usize, read: bool, write: bool) -
     requires room { vec_len player.old.told < vec_capacity player.old.told }
     ensures playing { IsPlaying player.new }
     ensures script { script_of player.new.answers ≡ script_of player.old.answers }
+    ensures rooms { player.new.rooms ≡ player.old.rooms }
     ensures told { player.new.told.items ≡ player.old.told.items ++ event.Modify wire key read write result ∷ [] }
 {
     let ok = outcome(&player.answers.modifies);
@@ -205,6 +212,7 @@ fn delete(player: &mut Player, wire: u32, key: usize) -> bool
     requires room { vec_len player.old.told < vec_capacity player.old.told }
     ensures playing { IsPlaying player.new }
     ensures script { script_of player.new.answers ≡ script_of player.old.answers }
+    ensures rooms { player.new.rooms ≡ player.old.rooms }
     ensures told { player.new.told.items ≡ player.old.told.items ++ event.Delete wire key result ∷ [] }
 {
     let ok = outcome(&player.answers.deletes);
@@ -219,6 +227,7 @@ fn notify(player: &mut Player) -> bool
     requires room { vec_len player.old.told < vec_capacity player.old.told }
     ensures playing { IsPlaying player.new }
     ensures script { script_of player.new.answers ≡ script_of player.old.answers }
+    ensures rooms { player.new.rooms ≡ player.old.rooms }
     ensures told { player.new.told.items ≡ player.old.told.items ++ event.Notify result ∷ [] }
 {
     let ok = outcome(&player.answers.notifies);
@@ -232,6 +241,7 @@ fn close(player: &mut Player, wire: u32)
     requires room { vec_len player.old.told < vec_capacity player.old.told }
     ensures playing { IsPlaying player.new }
     ensures script { script_of player.new.answers ≡ script_of player.old.answers }
+    ensures rooms { player.new.rooms ≡ player.old.rooms }
     ensures told { player.new.told.items ≡ player.old.told.items ++ event.Close wire ∷ [] }
 {
     tell(&mut player.told, Event::Close { wire });
@@ -263,6 +273,7 @@ fn dial(player: &mut Player, wire: u32, question: Question) -> Option<bool>
     requires room { vec_len player.old.told < vec_capacity player.old.told }
     ensures playing { IsPlaying player.new }
     ensures script { script_of player.new.answers ≡ script_of player.old.answers }
+    ensures rooms { player.new.rooms ≡ player.old.rooms }
     ensures told { player.new.told.items ≡ player.old.told.items ++ event.Dial wire question (dialled result) ∷ [] }
 {
     let passes = passes_in(next_at(&player.answers.dials, wire));
@@ -312,6 +323,7 @@ fn send(player: &mut Player, wire: u32, offered: Bytes) -> Result<Sent, Fault>
     requires room { vec_len player.old.told < vec_capacity player.old.told }
     ensures playing { IsPlaying player.new }
     ensures script { script_of player.new.answers ≡ script_of player.old.answers }
+    ensures rooms { player.new.rooms ≡ player.old.rooms }
     ensures told { player.new.told.items ≡ player.old.told.items ++ send_told wire offered result }
     ensures amount { IfOk result (IsSent (length offered)) }
 {
@@ -348,6 +360,7 @@ fn tell_read(player: &mut Player, wire: u32, asked: usize, answer: RecvAnswer)
     requires given { recv_given asked (next_answer (queue_at (map left_reads player.old.answers.recvs.items) wire)) ≡ answer }
     ensures playing { IsPlaying player.new }
     ensures script { script_of player.new.answers ≡ script_of player.old.answers }
+    ensures rooms { player.new.rooms ≡ player.old.rooms }
     ensures told { player.new.told.items ≡ player.old.told.items ++ event.Recv wire asked answer ∷ [] }
 {
     take_at(&mut player.answers.recvs, wire, asked);
@@ -367,6 +380,7 @@ fn recv(player: &mut Player, alloc: Global, wire: u32, into: &mut [u8]) -> Resul
     requires room { vec_len player.old.told < vec_capacity player.old.told }
     ensures playing { IsPlaying player.new }
     ensures script { script_of player.new.answers ≡ script_of player.old.answers }
+    ensures rooms { player.new.rooms ≡ player.old.rooms }
     ensures told { player.new.told.items ≡ player.old.told.items ++ recv_told wire into.new result }
     ensures amount { IfOk result (IsReceived (length into.old)) }
     ensures room { length into.new ≡ length into.old }
@@ -457,16 +471,39 @@ fn tell_wait(player: &mut Player, timeout: Option<u64>, answer: WaitAnswer)
     requires playing { IsPlaying player.old }
     requires room { vec_len player.old.told < vec_capacity player.old.told }
     requires given { is_wait_given (length player.old.keys.items) player.old.told.items (next_answer (left player.old.answers.waits)) answer ≡ true }
+    requires filled { is_filled player.old.rooms (length player.old.keys.items) player.old.told.items (next_answer (left player.old.answers.waits)) answer ≡ true }
     ensures playing { IsPlaying player.new }
     ensures script { script_of player.new.answers ≡ script_of player.old.answers }
+    ensures rooms { player.new.rooms ≡ player.old.rooms }
     ensures told { player.new.told.items ≡ player.old.told.items ++ event.Wait timeout answer ∷ [] }
 {
     player.answers.waits.advance();
     tell(&mut player.told, Event::Wait { timeout, answer });
 }
 
+/// Notes the room that a wait is lent.
+#[tactic(auto, using(crate::proofs::WaitLemmas::plays_lent, crate::proofs::WaitLemmas::is_lent))]
+fn lend(player: &mut Player, room: usize)
+    requires playing { IsPlaying player.old }
+    ensures playing { IsPlaying player.new }
+    ensures rooms { player.new ≡ record player.old { rooms = with_room player.old.rooms room } }
+    ensures lent { IsLent player.new.rooms room }
+{
+    player.rooms = player.rooms.and(room);
+}
+
 /// Waits for reports, which it puts at the front of a slice.
-#[tactic(auto, using(crate::proofs::WaitLemmas::reports_given, crate::proofs::WaitLemmas::reports_exact))]
+#[tactic(
+    auto,
+    using(
+        crate::proofs::WaitLemmas::reports_given,
+        crate::proofs::WaitLemmas::reports_exact,
+        crate::proofs::WaitLemmas::filled_none,
+        crate::proofs::WaitLemmas::filled_interrupted,
+        crate::proofs::WaitLemmas::filled_failed,
+        crate::proofs::WaitLemmas::filled_given
+    )
+)]
 fn wait(
     player: &mut Player,
     alloc: Global,
@@ -474,9 +511,11 @@ fn wait(
     reports: &mut [Report],
 ) -> Result<Waited, Fault>
     requires playing { IsPlaying player.old }
+    requires lent { IsLent player.old.rooms (length reports.old) }
     requires room { vec_len player.old.told < vec_capacity player.old.told }
     ensures playing { IsPlaying player.new }
     ensures script { script_of player.new.answers ≡ script_of player.old.answers }
+    ensures rooms { player.new.rooms ≡ player.old.rooms }
     ensures told { player.new.told.items ≡ player.old.told.items ++ wait_told timeout reports.new result }
     ensures exact { OnAnswer result (player.new.told.items ≡ player.old.told.items ++ event.Wait timeout (wait_given (length reports.old) (length player.old.keys.items) player.old.told.items (next_answer (left player.old.answers.waits))) ∷ []) }
     ensures amount { IfOk result (IsWaited (length reports.old)) }
@@ -577,8 +616,10 @@ impl Waiter for Scene {
         ensures room { length reports.new ≡ length reports.old }
         ensures cause { Counted result (outer_of self.old).poller_faults (outer_of self.new).poller_faults }
         ensures memory { OnLack result ((outer_of self.old).ample ≡ false) }
-        ensures keeps { Keeps part.Poller (outer_of self.old) (outer_of self.new) }
+        ensures lent { (outer_of self.new).rooms ≡ lent (outer_of self.old).rooms (length reports.old) }
+        ensures keeps { Keeps (part.Wait (length reports.old)) (outer_of self.old) (outer_of self.new) }
     {
+        lend(&mut self.player, reports.len());
         reserve(&mut self.player.told)?;
         wait(&mut self.player, self.alloc, timeout, reports)
     }

@@ -1,48 +1,16 @@
--- Hexadecimal digits, and lists of words as texts.
-use Rattle.std.proofs.Common.{◌≡◌, ℕ, zero, suc, ◌-◌, ◌/◌, ◌%◌, ◌^◌, ◌<◌, ◌≤◌, false, List, [], ◌∷◌, ◌++◌, map, length, take, refl, sym, ◌∙◌, ap, arith, append_assoc, codes, take_all}
-use Rattle.std.specs.List.{slice_index, join_with_byte, flat_map}
-use Rattle.std.specs.Fmt.{decimal, digit_glyph, digits, padded_integral, format_spec}
-use Rattle.std.proofs.lemmas.Fmt.{hex_byte}
+-- Bytes as words, and lists of words as texts.
+use Rattle.std.proofs.Common.{◌≡◌, ℕ, ◌<◌, List, [], ◌∷◌, ◌++◌, map, length, refl, sym, ◌∙◌, ap, arith, append_assoc, codes}
+use Rattle.std.specs.List.{join_with_byte, flat_map}
+use Rattle.std.specs.Fmt.{decimal}
 use Rattle.std.proofs.lemmas.List.{append-nil}
-use Rattle.hex.specs.Hex.{encode_lower, encode_with, lower_digits}
+use Rattle.hex.specs.Hex.{encode_lower}
 use Rattle.react_core.specs.declared.outside.Peer.{Peer}
 use Rattle.react_core.specs.declared.outside.Report.{Report}
 use Rattle.react_core.specs.declared.outside.Question.{Question}
 use Rattle.react_core.specs.declared.outside.Question.TheVariants as questions
 use Rattle.react_core.specs.declared.outside.DialAnswer.{DialAnswer}
 use Rattle.react_core.specs.declared.outside.DialAnswer.TheVariants as dials
-use Rattle.bus_script.specs.Printed.{byte_digits, bytes_word, peer_word, report_word, question_words, dial_words, words_text, optional_word, flag_word}
-
-glyph : (d : ℕ) → d < 16 → digit_glyph false d ≡ slice_index lower_digits d
-glyph zero below = refl
-glyph (suc zero) below = refl
-glyph (suc (suc zero)) below = refl
-glyph (suc (suc (suc zero))) below = refl
-glyph (suc (suc (suc (suc zero)))) below = refl
-glyph (suc (suc (suc (suc (suc zero))))) below = refl
-glyph (suc (suc (suc (suc (suc (suc zero)))))) below = refl
-glyph (suc (suc (suc (suc (suc (suc (suc zero))))))) below = refl
-glyph (suc (suc (suc (suc (suc (suc (suc (suc zero)))))))) below = refl
-glyph (suc (suc (suc (suc (suc (suc (suc (suc (suc zero))))))))) below = refl
-glyph (suc (suc (suc (suc (suc (suc (suc (suc (suc (suc zero)))))))))) below = refl
-glyph (suc (suc (suc (suc (suc (suc (suc (suc (suc (suc (suc zero))))))))))) below = refl
-glyph (suc (suc (suc (suc (suc (suc (suc (suc (suc (suc (suc (suc zero)))))))))))) below = refl
-glyph (suc (suc (suc (suc (suc (suc (suc (suc (suc (suc (suc (suc (suc zero))))))))))))) below = refl
-glyph (suc (suc (suc (suc (suc (suc (suc (suc (suc (suc (suc (suc (suc (suc zero)))))))))))))) below = refl
-glyph (suc (suc (suc (suc (suc (suc (suc (suc (suc (suc (suc (suc (suc (suc (suc zero))))))))))))))) below = refl
-glyph (suc (suc (suc (suc (suc (suc (suc (suc (suc (suc (suc (suc (suc (suc (suc (suc n)))))))))))))))) below = absurd (omega arith)
-
-pub two_digits : (b : ℕ) → b < 256 → padded_integral (format_spec 32 0 4 2 (2 ^ 64 - 1)) false [] (digits 16 false b) ≡ byte_digits b
-two_digits b small = hex_byte false b small ∙ rw (glyph (b / 16) (omega arith), glyph (b % 16) (omega arith)) refl
-
-encoded : (bs : List ℕ) → encode_lower bs ≡ flat_map byte_digits bs
-unfolding encode_with
-encoded [] = refl
-encoded (b ∷ bs) = ap (λ v. slice_index lower_digits (b / 16) ∷ slice_index lower_digits (b % 16) ∷ v) (encoded bs)
-
--- the digits of each byte, one after another
-pub all_digits : (bs : List ℕ) (i : ℕ) → length bs ≤ i → flat_map byte_digits (take i bs) ≡ encode_lower bs
-all_digits bs i past = rw (take_all i bs past) (sym (encoded bs))
+use Rattle.bus_script.specs.Printed.{bytes_word, peer_word, report_word, question_words, dial_words, words_text, optional_word, flag_word}
 
 pub some_bytes : (bs : List ℕ) → 0 < length bs → encode_lower bs ≡ bytes_word bs
 some_bytes [] some = absurd (omega arith)

@@ -1,9 +1,9 @@
 -- The text of endings and events: each line is its words, joined by one space.
-use Rattle.std.specs.Prelude.{ℕ, ◌/◌, ◌%◌, Bool, List, [], ◌∷◌, ◌++◌, map, Option, Some, None, codes, if◌then◌else◌}
-use Rattle.std.specs.List.{join_with_byte, flat_map, slice_index}
+use Rattle.std.specs.Prelude.{ℕ, Bool, List, [], ◌∷◌, ◌++◌, map, Option, Some, None, codes, if◌then◌else◌}
+use Rattle.std.specs.List.{join_with_byte, flat_map}
 use Rattle.std.specs.Fmt.{decimal}
 use Rattle.std.specs.Int.{w32, w128, to_be_bytes}
-use Rattle.hex.specs.Hex.{encode_lower, lower_digits}
+use Rattle.hex.specs.Hex.{encode_lower}
 use Rattle.react_core.specs.declared.outside.Peer.{Peer}
 use Rattle.react_core.specs.declared.outside.Peer.TheVariants as peers
 use Rattle.react_core.specs.declared.outside.Question.{Question}
@@ -24,10 +24,6 @@ use Rattle.bus_script.specs.declared.line.Reason.{Reason}
 use Rattle.bus_session.specs.declared.ended.Ending.{Ending}
 use Rattle.bus_session.specs.declared.ended.Ending.TheVariants as endings
 use Rattle.bus_session.specs.declared.ended.Ended.{Ended}
-
--- the two digits of a byte
-abbrev pub byte_digits : ℕ → List ℕ
-byte_digits b = slice_index lower_digits (b / 16) ∷ slice_index lower_digits (b % 16) ∷ []
 
 -- hexadecimal digits in lower case; a point is no bytes
 abbrev pub bytes_word : List ℕ → List ℕ

@@ -2,47 +2,17 @@
 
 ghost use Rattle.std.specs.Prelude.{◌≡◌, ℕ, List, ◌++◌, ◌∷◌, [], IfOk, OnOk, string_bytes, Some, codes};
 ghost use Rattle.std.specs.List.{flat_map};
-ghost use Rattle.hex.specs.Hex.{encode_lower};
-ghost use Rattle.bus_script.specs.Printed.{byte_digits, bytes_word, flag_word, ok_word, directions, peer_word, question_words, dial_words, recv_words, send_words, report_word, wait_words, words_text, event_words, ending_word, ended_words, session_lines, event_lines, printed, refusal};
+ghost use Rattle.bus_script.specs.Printed.{bytes_word, flag_word, ok_word, directions, peer_word, question_words, dial_words, recv_words, send_words, report_word, wait_words, words_text, event_words, ending_word, ended_words, session_lines, event_lines, printed, refusal};
 
 use crate::line::Reason;
 use bus_session::{Ended, Ending};
+use bus_opening::Hexadecimal;
 use react_core::outside::{
     Bytes, DialAnswer, Event, OutOfMemory, Peer, Question, RecvAnswer, Report, SendAnswer,
     WaitAnswer,
 };
 use std::alloc::Global;
 use std::fmt;
-
-/// A byte as two hexadecimal digits.
-#[derive(Clone, Copy)]
-struct Byte(u8);
-
-impl fmt::Display for Byte {
-    ghost output = { λ b. Some (byte_digits b.0) };
-
-    #[tactic(auto, using(crate::proofs::Texts::two_digits))]
-    fn fmt<W: fmt::Write>(&self, f: &mut fmt::Formatter<W>) -> fmt::Result {
-        let byte = self.0;
-        write!(f, "{byte:02x}")
-    }
-}
-
-/// Bytes as hexadecimal digits.
-#[derive(Clone, Copy)]
-struct Digits<'a>(&'a [u8]);
-
-impl fmt::Display for Digits<'_> {
-    ghost output = { λ d. Some (encode_lower d.0.now) };
-
-    #[tactic(auto, using(crate::proofs::Texts::all_digits))]
-    fn fmt<W: fmt::Write>(&self, f: &mut fmt::Formatter<W>) -> fmt::Result {
-        for byte in self.0 {
-            write!(f, "{}", Byte(*byte))?;
-        }
-        Ok(())
-    }
-}
 
 /// Bytes as a word: hexadecimal digits, or a point for none.
 #[derive(Clone, Copy)]
@@ -56,7 +26,7 @@ impl fmt::Display for Hex<'_> {
         if self.0.is_empty() {
             return f.write_str(".");
         }
-        write!(f, "{}", Digits(self.0))
+        write!(f, "{}", Hexadecimal(self.0))
     }
 }
 
@@ -94,11 +64,11 @@ impl fmt::Display for PeerWord {
         match self.0 {
             Peer::V4 { ip, port } => {
                 let octets = ip.to_be_bytes();
-                write!(f, "4-{}-{port}", Digits(&octets))
+                write!(f, "4-{}-{port}", Hexadecimal(&octets))
             }
             Peer::V6 { ip, port } => {
                 let octets = ip.to_be_bytes();
-                write!(f, "6-{}-{port}", Digits(&octets))
+                write!(f, "6-{}-{port}", Hexadecimal(&octets))
             }
         }
     }

@@ -6,7 +6,7 @@
 ghost use Rattle.std.specs.Prelude.{◌≡◌, ◌≤◌, ℕ, false, List, Option, length, IfOk, OnErr};
 ghost use Rattle.react_core.specs.declared.outside.Event.{Event};
 ghost use Rattle.react_core.specs.declared.outside.Question.TheVariants as question;
-ghost use Rattle.react_core.specs.Outer.{Outer, Keeps, CountsFit};
+ghost use Rattle.react_core.specs.Outer.{Outer, Keeps, CountsFit, with_room, lent};
 ghost use Rattle.react_core.specs.Outer as part;
 ghost use Rattle.react_core.specs.Told.{told, now_told, add_told, modify_told, delete_told, notify_told, wait_told, recv_told, send_told, close_told, dial_told};
 ghost use Rattle.react_core.specs.Told.{Counted, OnLack, IsReceived, IsSent, IsWaited};
@@ -303,6 +303,30 @@ pub enum Event {
     },
 }
 
+/// The room for reports that waits were lent.
+#[derive(Clone, Copy, Debug, PartialEq, Eq)]
+pub enum Rooms {
+    /// No wait came yet.
+    Unwaited,
+    /// Each wait was lent this room.
+    Each(usize),
+    /// Two waits were lent different rooms.
+    Differ,
+}
+
+impl Rooms {
+    /// The rooms with one more wait's.
+    pub fn and(self, room: usize) -> Rooms
+        ensures value { result ≡ with_room self room }
+    {
+        match self {
+            Rooms::Unwaited => Rooms::Each(room),
+            Rooms::Each(each) if each == room => self,
+            Rooms::Each(_) | Rooms::Differ => Rooms::Differ,
+        }
+    }
+}
+
 /// What an object tells, and how often each part of it has failed. It has no call of its own.
 pub trait Tells {
     /// Where the answers come from, as the script of a scene.
@@ -376,9 +400,10 @@ pub trait Waiter: Tells {
         ensures told { (Self.outer self.new).events ≡ told (Self.outer self.old).events (wait_told timeout reports.new result) }
         ensures amount { IfOk result (IsWaited (length reports.old)) }
         ensures room { length reports.new ≡ length reports.old }
+        ensures lent { (Self.outer self.new).rooms ≡ lent (Self.outer self.old).rooms (length reports.old) }
         ensures cause { Counted result (Self.outer self.old).poller_faults (Self.outer self.new).poller_faults }
         ensures memory { OnLack result ((Self.outer self.old).ample ≡ false) }
-        ensures keeps { Keeps part.Poller (Self.outer self.old) (Self.outer self.new) };
+        ensures keeps { Keeps (part.Wait (length reports.old)) (Self.outer self.old) (Self.outer self.new) };
 }
 
 /// A poller. Its three parts have one common count of faults.

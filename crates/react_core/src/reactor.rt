@@ -466,7 +466,7 @@ impl Reactor {
             (O.outer outside.new).moment ≡ (O.outer outside.old).moment) }
         ensures memory { OnReactLack result ((O.outer outside.old).ample ≡ false) }
         ensures cause { RoundCounted result (O.outer outside.old).poller_faults (O.outer outside.new).poller_faults }
-        ensures keeps { Keeps part.Round (O.outer outside.old) (O.outer outside.new) }
+        ensures keeps { Keeps (part.Round self.old.events) (O.outer outside.old) (O.outer outside.new) }
     {
         // Before the clock is read: this refusal asks nothing of the outside.
         if self.ticker == u64::MAX {

@@ -50,7 +50,7 @@ pub(crate) fn wait_for_reports<O: Clock + Waiter>(
     ensures within { result_unwrap_or result 0 ≤ length reports.old }
     ensures memory { OnReactLack result ((O.outer outside.old).ample ≡ false) }
     ensures cause { ReactCounted result (O.outer outside.old).poller_faults (O.outer outside.new).poller_faults }
-    ensures keeps { Keeps part.Round (O.outer outside.old) (O.outer outside.new) }
+    ensures keeps { Keeps (part.Round (length reports.old)) (O.outer outside.old) (O.outer outside.new) }
 {
     let count = match outside.wait(timeout, reports)? {
         // The timeout need not have passed.

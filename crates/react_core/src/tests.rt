@@ -69,6 +69,7 @@ impl Tells for Small {
       events = None;
       moment = 0;
       poller_faults = 2 ^ 64 - 1;
+      rooms = None;
       wire_faults = λ _. 0;
       dial_faults = λ _. 0;
       doors = record { faults = 0; arrivals = [] };

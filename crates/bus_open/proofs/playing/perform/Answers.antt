@@ -1,6 +1,7 @@
 use Rattle.std.proofs.Common.{ap, sym, ◌∙◌}
+use Rattle.react_core.specs.Core.{ReactorState}
 use Rattle.bus_open.proofs.Cuts.{keeps_same}
-use Rattle.bus_open.proofs.Opening.{comes, exhausted-alone, fails, one-of, poller-alone, runs-out}
+use Rattle.bus_open.proofs.Opening.{comes, follows-answers, exhausted-alone, fails, one-of, poller-alone, runs-out}
 use Rattle.bus_open.proofs.playing.perform.Goals as goal
 
 pub returns-in-Ok-opened-clause-opened : goal.returns-in-Ok-opened-clause-opened
@@ -8,8 +9,10 @@ returns-in-Ok-opened-clause-opened g c = λ zero.
     let all = rw c.as_slice.ensures.value at (c.report.ensures.all_open zero) in (
       c.in-Ok-opened.endeds.items,
       c.events-events.result.now,
-      comes c.args.played.scene.script _ c.args.played.sessions.items c.args.played.rounds _ _ c.in-Ok-opened.endeds.items _ _ c.events-events.result.now
-          c.open_all-opened.ensures.keeps.origin c.requires.new c.events-events.ensures.told c.events-events.ensures.follows c.in-Ok-opened.ensures.cause c.in-Ok-opened.ensures.opened,
+      comes c.args.played.scene.script c.args.played.sessions.items c.args.played.rounds _ _ c.in-Ok-opened.endeds.items _ _ c.events-events.result.now
+          c.requires.new c.events-events.ensures.told
+          (follows-answers c.args.played.scene.script _ c.args.played.scene.rooms _ _ _ c.events-events.result.now c.open_all-opened.ensures.keeps.origin
+          c.events-events.ensures.told c.requires.unwaited (ap (λ (r : ReactorState). r.events) c.in-Ok.ensures) c.open_all-opened.ensures.keeps.rooms c.events-events.ensures.follows) c.in-Ok-opened.ensures.cause c.in-Ok-opened.ensures.opened,
       all.0,
       all.1,
     )
@@ -19,8 +22,10 @@ returns-in-Ok-opened-clause-other g c = λ one.
     let other = rw c.as_slice.ensures.value at (c.report.ensures.other one) in (
       c.in-Ok-opened.endeds.items,
       c.events-events.result.now,
-      comes c.args.played.scene.script _ c.args.played.sessions.items c.args.played.rounds _ _ c.in-Ok-opened.endeds.items _ _ c.events-events.result.now
-          c.open_all-opened.ensures.keeps.origin c.requires.new c.events-events.ensures.told c.events-events.ensures.follows c.in-Ok-opened.ensures.cause c.in-Ok-opened.ensures.opened,
+      comes c.args.played.scene.script c.args.played.sessions.items c.args.played.rounds _ _ c.in-Ok-opened.endeds.items _ _ c.events-events.result.now
+          c.requires.new c.events-events.ensures.told
+          (follows-answers c.args.played.scene.script _ c.args.played.scene.rooms _ _ _ c.events-events.result.now c.open_all-opened.ensures.keeps.origin
+          c.events-events.ensures.told c.requires.unwaited (ap (λ (r : ReactorState). r.events) c.in-Ok.ensures) c.open_all-opened.ensures.keeps.rooms c.events-events.ensures.follows) c.in-Ok-opened.ensures.cause c.in-Ok-opened.ensures.opened,
       other.0,
       other.1,
     )
@@ -30,8 +35,10 @@ returns-in-Ok-opened-clause-failed g c = λ four.
     let failed = rw c.as_slice.ensures.value at (c.report.ensures.failed four) in (
       c.in-Ok-opened.endeds.items,
       c.events-events.result.now,
-      comes c.args.played.scene.script _ c.args.played.sessions.items c.args.played.rounds _ _ c.in-Ok-opened.endeds.items _ _ c.events-events.result.now
-          c.open_all-opened.ensures.keeps.origin c.requires.new c.events-events.ensures.told c.events-events.ensures.follows c.in-Ok-opened.ensures.cause c.in-Ok-opened.ensures.opened,
+      comes c.args.played.scene.script c.args.played.sessions.items c.args.played.rounds _ _ c.in-Ok-opened.endeds.items _ _ c.events-events.result.now
+          c.requires.new c.events-events.ensures.told
+          (follows-answers c.args.played.scene.script _ c.args.played.scene.rooms _ _ _ c.events-events.result.now c.open_all-opened.ensures.keeps.origin
+          c.events-events.ensures.told c.requires.unwaited (ap (λ (r : ReactorState). r.events) c.in-Ok.ensures) c.open_all-opened.ensures.keeps.rooms c.events-events.ensures.follows) c.in-Ok-opened.ensures.cause c.in-Ok-opened.ensures.opened,
       failed.0,
       failed.1,
     )
@@ -41,7 +48,9 @@ returns-clause-status g c = rw c.status_of.ensures (one-of c.in-Err.refusal)
 
 pub returns-clause-poller : goal.returns-clause-poller
 returns-clause-poller g c = λ six. (
-  fails c.args.played.scene.script _ _ _ c.events-events.result.now c.open_all-opened.ensures.keeps.origin c.requires.new c.events-events.ensures.told c.events-events.ensures.follows
+  fails c.args.played.scene.script _ _ c.events-events.result.now c.requires.new c.events-events.ensures.told
+      (follows-answers c.args.played.scene.script _ c.args.played.scene.rooms _ _ _ c.events-events.result.now c.open_all-opened.ensures.keeps.origin
+      c.events-events.ensures.told c.requires.unwaited (ap (λ (r : ReactorState). r.events) c.in-Ok.ensures) c.open_all-opened.ensures.keeps.rooms c.events-events.ensures.follows)
       (rw (poller-alone c.in-Err.refusal (sym c.status_of.ensures ∙ six)) at c.in-Err.ensures.cause),
   keeps_same _,
 )

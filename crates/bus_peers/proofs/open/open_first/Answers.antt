@@ -11,7 +11,7 @@ use Rattle.bus_peers.specs.Visited.{FirstVisits}
 use Rattle.react_core.specs.Outer.{keeps-same, keeps-then, visit-in-all}
 use Rattle.react_core.specs.Outer as part
 use Rattle.bus_peers.specs.Faults.{AllCounted}
-use Rattle.bus_peers.proofs.FrameLemmas.{first-made, all-none, all-more}
+use Rattle.bus_peers.proofs.FrameLemmas.{fell-all, first-made, all-none, all-more}
 use Rattle.bus_peers.proofs.SlotLemmas.{test-more, no_wire-above, owned-none, owned-first, first-open, refuses-more}
 use Rattle.bus_peers.proofs.GoingLemmas.{going-start, going-first, went-told}
 use Rattle.bus_peers.proofs.open.open_first.Goals as goal
@@ -31,7 +31,7 @@ loop-session-init g c =
       owned = owned-none c.args.slots.now.items (tags c.args.reactor.now.core.sources) c.requires.unused (ap tags c.requires.empty);
       poller = refl;
       timers = refl;
-      keeps = keeps-same part.All _;
+      keeps = λ room. keeps-same (part.All room) _;
       counted = all-none c.args.slots.now.items _ _ c.requires.unused;
       reports = refl;
     }
@@ -74,9 +74,9 @@ loop-session-preserved g c =
           (c.loop-session.invariant.wire ∙ here) c.in_ok-first_visit.ensures.tags c.loop-session.invariant.owned);
       poller = c.in_ok-first_visit.ensures.cause ∙ c.loop-session.invariant.poller;
       timers = made ∙ c.loop-session.invariant.timers;
-      keeps = keeps-then part.All _ _ _ c.loop-session.invariant.keeps (visit-in-all c.loop-session.wire _ _ c.first_visit.ensures.keeps);
+      keeps = λ room. keeps-then (part.All room) _ _ _ (c.loop-session.invariant.keeps room) (visit-in-all c.loop-session.wire room _ _ c.first_visit.ensures.keeps);
       counted = subst A {x = c.loop-session.slots.items ++ c.in_ok-first_visit.field-0 ∷ []} (sym {A = List Slot} c.push_reserved.ensures.items)
-          (all-more c.loop-session.wire c.loop-session.slots.items c.in_ok-first_visit.field-0 _ _ _ (c.loop-session.invariant.wire ∙ here) c.loop-session.invariant.keeps c.first_visit.ensures.keeps c.loop-session.invariant.counted c.in_ok-first_visit.ensures.counted);
+          (all-more c.loop-session.wire c.loop-session.slots.items c.in_ok-first_visit.field-0 _ _ _ (c.loop-session.invariant.wire ∙ here) (fell-all 0 _ _ (c.loop-session.invariant.keeps 0)) c.first_visit.ensures.keeps c.loop-session.invariant.counted c.in_ok-first_visit.ensures.counted);
       reports = c.in_ok-first_visit.ensures.reports ∙ c.loop-session.invariant.reports;
     }
 
@@ -94,4 +94,4 @@ pub returns-in_err-first_visit-clause-timers : goal.returns-in_err-first_visit-c
 returns-in_err-first_visit-clause-timers g c = first-made c.first_visit.result c.session-item.result c.loop-session.wire _ _ _ _ _ c.first_visit.ensures.visited c.first_visit.ensures.refused ∙ c.loop-session.invariant.timers
 
 pub returns-in_err-first_visit-clause-keeps : goal.returns-in_err-first_visit-clause-keeps
-returns-in_err-first_visit-clause-keeps g c = keeps-then part.All _ _ _ c.loop-session.invariant.keeps (visit-in-all c.loop-session.wire _ _ c.first_visit.ensures.keeps)
+returns-in_err-first_visit-clause-keeps g c = λ room. keeps-then (part.All room) _ _ _ (c.loop-session.invariant.keeps room) (visit-in-all c.loop-session.wire room _ _ c.first_visit.ensures.keeps)

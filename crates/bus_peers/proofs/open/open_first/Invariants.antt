@@ -18,7 +18,7 @@ invariant-loop-session g l = record {
   owned : Owned l.slots.items (tags l.reactor.core.sources);
   poller : (g.O.Tells.outer l.outside).poller_faults ≡ (g.O.Tells.outer l.fn.outside).poller_faults;
   timers : l.reactor.core.made ≡ l.fn.reactor.core.made;
-  keeps : Keeps part.All (g.O.Tells.outer l.fn.outside) (g.O.Tells.outer l.outside);
+  keeps : (room : ℕ) → Keeps (part.All room) (g.O.Tells.outer l.fn.outside) (g.O.Tells.outer l.outside);
   counted : AllCounted 0 l.slots.items (g.O.Tells.outer l.fn.outside) (g.O.Tells.outer l.outside);
   reports : l.reactor.events ≡ l.fn.reactor.events;
 }

@@ -2,7 +2,7 @@ use Rattle.bus_peers.proofs.OpenLemmas.{rested-kept, answers-none, answers-refus
 use Rattle.react_core.specs.Outer.{keeps-same, keeps-then, poller-in-all}
 use Rattle.react_core.specs.Outer as part
 use Rattle.bus_peers.proofs.Firsts.{if-ok}
-use Rattle.bus_peers.proofs.FrameLemmas.{all-later, all-ended}
+use Rattle.bus_peers.proofs.FrameLemmas.{fell-all, all-later, all-ended}
 use Rattle.bus_peers.proofs.open.open_over.Goals as goal
 
 pub returns-in_err-slots-clause-opened : goal.returns-in_err-slots-clause-opened
@@ -34,18 +34,18 @@ returns-clause-opened g c =
     c.in_ok-removed.ensures.told c.endeds_in.ensures.ended c.endeds_in.ensures.err
 
 pub returns-in_err-slots-clause-keeps : goal.returns-in_err-slots-clause-keeps
-returns-in_err-slots-clause-keeps g c = keeps-same part.All _
+returns-in_err-slots-clause-keeps g c = keeps-same (part.All c.args.reactor.now.events) _
 
 pub returns-in_err-opened-clause-keeps : goal.returns-in_err-opened-clause-keeps
-returns-in_err-opened-clause-keeps g c = keeps-then part.All _ _ _ c.open_rounds-opened.ensures.keeps (poller-in-all _ _ c.remove_sources-removed.ensures.keeps)
+returns-in_err-opened-clause-keeps g c = keeps-then (part.All c.args.reactor.now.events) _ _ _ c.open_rounds-opened.ensures.keeps (poller-in-all c.args.reactor.now.events _ _ c.remove_sources-removed.ensures.keeps)
 
 pub returns-in_err-removed-clause-keeps : goal.returns-in_err-removed-clause-keeps
-returns-in_err-removed-clause-keeps g c = keeps-then part.All _ _ _ c.open_rounds-opened.ensures.keeps (poller-in-all _ _ c.remove_sources-removed.ensures.keeps)
+returns-in_err-removed-clause-keeps g c = keeps-then (part.All c.args.reactor.now.events) _ _ _ c.open_rounds-opened.ensures.keeps (poller-in-all c.args.reactor.now.events _ _ c.remove_sources-removed.ensures.keeps)
 
 pub returns-clause-keeps : goal.returns-clause-keeps
-returns-clause-keeps g c = keeps-then part.All _ _ _ c.open_rounds-opened.ensures.keeps (poller-in-all _ _ c.remove_sources-removed.ensures.keeps)
+returns-clause-keeps g c = keeps-then (part.All c.args.reactor.now.events) _ _ _ c.open_rounds-opened.ensures.keeps (poller-in-all c.args.reactor.now.events _ _ c.remove_sources-removed.ensures.keeps)
 
 pub returns-clause-faults : goal.returns-clause-faults
 returns-clause-faults g c = if-ok c.endeds_in.result
     (λ endeds ends. all-ended 0 c.open_rounds-opened.new.slots.items endeds.items _ _ ends
-    (all-later 0 c.open_rounds-opened.new.slots.items _ _ _ (poller-in-all _ _ c.remove_sources-removed.ensures.keeps) c.in_ok-opened.ensures.counted)) c.endeds_in.ensures.ended
+    (all-later 0 c.open_rounds-opened.new.slots.items _ _ _ (fell-all 0 _ _ (poller-in-all 0 _ _ c.remove_sources-removed.ensures.keeps)) c.in_ok-opened.ensures.counted)) c.endeds_in.ensures.ended

@@ -4,6 +4,7 @@ use Rattle.react_core.specs.Outer.{keeps-then}
 use Rattle.react_core.specs.Outer as part
 use Rattle.bus_peers.proofs.SlotLemmas.{refuses-more}
 use Rattle.bus_peers.proofs.GoingLemmas.{went-told}
+use Rattle.bus_peers.proofs.FrameLemmas.{fell-all}
 use Rattle.bus_peers.proofs.open.open_rounds.Goals as goal
 
 pub returns-clause-refused : goal.returns-clause-refused
@@ -12,7 +13,11 @@ returns-clause-refused g c =
     (went-told c.args.sessions.now.items 0 0 [] c.args.reactor.now.core ((g.O.Tells.outer c.args.outside.now).events) ((g.O.Tells.outer c.open_first.new.outside).events) c.open_first.new.reactor.core c.open_first.new.slots.items (c.in_ok-open_first.ensures.went 0)) c.go_rounds.ensures.refused
 
 pub returns-clause-keeps : goal.returns-clause-keeps
-returns-clause-keeps g c = keeps-then part.All _ _ _ c.open_first.ensures.keeps c.go_rounds.ensures.keeps
+returns-clause-keeps g c =
+    keeps-then (part.All c.args.reactor.now.events) _ _ _ (c.open_first.ensures.keeps c.args.reactor.now.events) (rw c.open_first.ensures.reports at c.go_rounds.ensures.keeps)
 
 pub returns-clause-counted : goal.returns-clause-counted
-returns-clause-counted g c = on_ok_weaker c.go_rounds.result (λ counts. counts _ c.open_first.ensures.keeps c.in_ok-open_first.ensures.counted) c.go_rounds.ensures.counted
+returns-clause-counted g c = on_ok_weaker c.go_rounds.result (λ counts. counts _ (fell-all 0 _ _ (c.open_first.ensures.keeps 0)) c.in_ok-open_first.ensures.counted) c.go_rounds.ensures.counted
+
+pub returns-in_err-open_first-clause-keeps : goal.returns-in_err-open_first-clause-keeps
+returns-in_err-open_first-clause-keeps g c = c.open_first.ensures.keeps c.args.reactor.now.events

@@ -6,7 +6,7 @@ use Rattle.bus_peers.specs.RoundEvents.{Round}
 use Rattle.bus_peers.specs.Rounds.{Rounded}
 use Rattle.react_core.specs.Outer.{keeps-then, round-in-all}
 use Rattle.react_core.specs.Outer as part
-use Rattle.bus_peers.proofs.FrameLemmas.{counts-same, counts-then}
+use Rattle.bus_peers.proofs.FrameLemmas.{fell-round, counts-same, counts-then}
 use Rattle.bus_peers.proofs.SlotLemmas.{refuses-more, told-both}
 use Rattle.bus_peers.proofs.GoingLemmas.{going-round, round-told, round-wires}
 use Rattle.bus_peers.proofs.rounds.go_round.Goals as goal
@@ -33,12 +33,12 @@ returns-clause-refused g c =
     (round-told ((g.O.Tells.outer c.args.outside.now).events) ((g.O.Tells.outer c.round.new.outside).events) c.args.reactor.now.core c.round.new.reactor.core c.as_slice.result.now (seen ((g.O.Tells.outer c.args.outside.now).events) ((g.O.Tells.outer c.round.new.outside).events) c.args.reactor.now.core c.round.new.reactor.core c.as_slice.result.now c.in_ok-woken.woken.items c.as_slice.ensures.value c.in_ok-woken.ensures.rounded)) c.visit_woken.ensures.refused
 
 pub returns-in_err-woken-clause-keeps : goal.returns-in_err-woken-clause-keeps
-returns-in_err-woken-clause-keeps g c = round-in-all _ _ c.round.ensures.keeps
+returns-in_err-woken-clause-keeps g c = round-in-all c.args.reactor.now.events _ _ c.round.ensures.keeps
 
 pub returns-clause-keeps : goal.returns-clause-keeps
-returns-clause-keeps g c = keeps-then part.All _ _ _ (round-in-all _ _ c.round.ensures.keeps) c.visit_woken.ensures.keeps
+returns-clause-keeps g c = keeps-then (part.All c.args.reactor.now.events) _ _ _ (round-in-all c.args.reactor.now.events _ _ c.round.ensures.keeps) (c.visit_woken.ensures.keeps c.args.reactor.now.events)
 
 pub returns-clause-counted : goal.returns-clause-counted
 returns-clause-counted g c =
-    on_ok_weaker c.visit_woken.result (λ counted. counts-then c.args.slots.now.items c.args.slots.now.items c.visit_woken.new.slots.items _ _ _ (round-in-all _ _ c.round.ensures.keeps)
-    (counts-same c.args.slots.now.items _ _ (round-in-all _ _ c.round.ensures.keeps)) counted) c.visit_woken.ensures.counted
+    on_ok_weaker c.visit_woken.result (λ counted. counts-then c.args.slots.now.items c.args.slots.now.items c.visit_woken.new.slots.items _ _ _ (fell-round c.args.reactor.now.events _ _ c.round.ensures.keeps)
+    (counts-same c.args.slots.now.items _ _ (fell-round c.args.reactor.now.events _ _ c.round.ensures.keeps)) counted) c.visit_woken.ensures.counted

@@ -5,7 +5,7 @@ use Rattle.bus_peers.specs.Rounds.{OnExhausted}
 use Rattle.bus_peers.specs.Slots.{Refuses}
 use Rattle.react_core.specs.Outer.{keeps-same, keeps-then}
 use Rattle.react_core.specs.Outer as part
-use Rattle.bus_peers.proofs.FrameLemmas.{counts-none, counts-then}
+use Rattle.bus_peers.proofs.FrameLemmas.{fell-all, counts-none, counts-then}
 use Rattle.bus_peers.proofs.SlotLemmas.{refuses-more, told-both}
 use Rattle.bus_peers.proofs.GoingLemmas.{rounds-more, rounds-end, rounds-stuck}
 use Rattle.bus_peers.proofs.rounds.go_rounds.Goals as goal
@@ -39,8 +39,8 @@ loop-done-preserved g c =
       told = told-both ((g.O.Tells.outer c.args.outside.now).events) ((g.O.Tells.outer c.loop-done.outside).events) ((g.O.Tells.outer c.go_round.new.outside).events) c.args.reactor.now.core c.loop-done.reactor.core c.go_round.new.reactor.core c.loop-done.invariant.told c.in_ok-go_round.ensures.told;
       poller = c.in_ok-go_round.ensures.cause ∙ c.loop-done.invariant.poller;
       timers = c.go_round.ensures.timers ∙ c.loop-done.invariant.timers;
-      keeps = keeps-then part.All _ _ _ c.loop-done.invariant.keeps c.go_round.ensures.keeps;
-      counted = counts-then c.args.slots.now.items c.loop-done.slots.items c.go_round.new.slots.items _ _ _ c.loop-done.invariant.keeps c.loop-done.invariant.counted c.in_ok-go_round.ensures.counted;
+      keeps = keeps-then (part.All c.args.reactor.now.events) _ _ _ c.loop-done.invariant.keeps (rw c.loop-done.invariant.reports at c.go_round.ensures.keeps);
+      counted = counts-then c.args.slots.now.items c.loop-done.slots.items c.go_round.new.slots.items _ _ _ (fell-all c.args.reactor.now.events _ _ c.loop-done.invariant.keeps) c.loop-done.invariant.counted c.in_ok-go_round.ensures.counted;
       reports = c.in_ok-go_round.ensures.reports ∙ c.loop-done.invariant.reports;
     }
 
@@ -57,7 +57,7 @@ returns-after-loop-done-clause-went g c =
     (inl all) c.loop-done.invariant.went
 
 pub returns-in_err-go_round-clause-keeps : goal.returns-in_err-go_round-clause-keeps
-returns-in_err-go_round-clause-keeps g c = keeps-then part.All _ _ _ c.loop-done.invariant.keeps c.go_round.ensures.keeps
+returns-in_err-go_round-clause-keeps g c = keeps-then (part.All c.args.reactor.now.events) _ _ _ c.loop-done.invariant.keeps (rw c.loop-done.invariant.reports at c.go_round.ensures.keeps)
 
 pub loop-done-init : goal.loop-done-init
 loop-done-init g c = search (rules, keeps-same, counts-none)

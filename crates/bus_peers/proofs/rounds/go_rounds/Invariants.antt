@@ -19,7 +19,7 @@ invariant-loop-done g l = record {
   told : (more : List Event) × Told ((g.O.Tells.outer l.fn.outside).events) ((g.O.Tells.outer l.outside).events) l.fn.reactor.core l.reactor.core more;
   poller : (g.O.Tells.outer l.outside).poller_faults ≡ (g.O.Tells.outer l.fn.outside).poller_faults;
   timers : l.reactor.core.made ≡ l.fn.reactor.core.made;
-  keeps : Keeps part.All (g.O.Tells.outer l.fn.outside) (g.O.Tells.outer l.outside);
+  keeps : Keeps (part.All l.fn.reactor.events) (g.O.Tells.outer l.fn.outside) (g.O.Tells.outer l.outside);
   counted : CountsOn l.fn.slots.items l.slots.items (g.O.Tells.outer l.fn.outside) (g.O.Tells.outer l.outside);
   reports : l.reactor.events ≡ l.fn.reactor.events;
 }

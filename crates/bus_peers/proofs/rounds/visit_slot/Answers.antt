@@ -108,13 +108,13 @@ pub returns-in_err-slots-clause-timers : goal.returns-in_err-slots-clause-timers
 returns-in_err-slots-clause-timers g c = visit-made c.visit.result _ _ _ _ _ _ _ _ c.visit.ensures.visited c.visit.ensures.refused
 
 pub returns-in_err-slots-clause-keeps : goal.returns-in_err-slots-clause-keeps
-returns-in_err-slots-clause-keeps g c = visit-in-all c.args.wire _ _ c.visit.ensures.keeps
+returns-in_err-slots-clause-keeps g c = λ room. visit-in-all c.args.wire room _ _ c.visit.ensures.keeps
 
 pub returns-clause-timers : goal.returns-clause-timers
 returns-clause-timers g c = visit-made c.visit.result _ _ _ _ _ _ _ _ c.visit.ensures.visited c.visit.ensures.refused
 
 pub returns-clause-keeps : goal.returns-clause-keeps
-returns-clause-keeps g c = visit-in-all c.args.wire _ _ c.visit.ensures.keeps
+returns-clause-keeps g c = λ room. visit-in-all c.args.wire room _ _ c.visit.ensures.keeps
 
 pub returns-clause-counted : goal.returns-clause-counted
 returns-clause-counted g c =

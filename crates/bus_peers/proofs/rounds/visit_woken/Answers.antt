@@ -4,7 +4,7 @@ use Rattle.bus_peers.specs.Shown.{tags}
 use Rattle.bus_peers.specs.Slots.{Refuses}
 use Rattle.react_core.specs.Outer.{keeps-same, keeps-then}
 use Rattle.react_core.specs.Outer as part
-use Rattle.bus_peers.proofs.FrameLemmas.{counts-none, counts-then}
+use Rattle.bus_peers.proofs.FrameLemmas.{fell-all, counts-none, counts-then}
 use Rattle.bus_peers.proofs.SlotLemmas.{refuses-more, told-both, rise-next, have-rest, wire-below, goes-next, goes-all}
 use Rattle.bus_peers.proofs.rounds.visit_woken.Goals as goal
 
@@ -37,8 +37,8 @@ loop-wire-preserved g c = record {
   told = told-both ((g.O.Tells.outer c.args.outside.now).events) ((g.O.Tells.outer c.loop-wire.outside).events) ((g.O.Tells.outer c.visit_slot.new.outside).events) c.args.reactor.now.core c.loop-wire.reactor.core c.visit_slot.new.reactor.core c.loop-wire.invariant.told c.in_ok-visit_slot.ensures.told;
   poller = c.in_ok-visit_slot.ensures.cause ∙ c.loop-wire.invariant.poller;
   timers = c.visit_slot.ensures.timers ∙ c.loop-wire.invariant.timers;
-  keeps = keeps-then part.All _ _ _ c.loop-wire.invariant.keeps c.visit_slot.ensures.keeps;
-  counted = counts-then c.args.slots.now.items c.loop-wire.slots.items c.visit_slot.new.slots.items _ _ _ c.loop-wire.invariant.keeps c.loop-wire.invariant.counted c.in_ok-visit_slot.ensures.counted;
+  keeps = λ room. keeps-then (part.All room) _ _ _ (c.loop-wire.invariant.keeps room) (c.visit_slot.ensures.keeps room);
+  counted = counts-then c.args.slots.now.items c.loop-wire.slots.items c.visit_slot.new.slots.items _ _ _ (fell-all 0 _ _ (c.loop-wire.invariant.keeps 0)) c.loop-wire.invariant.counted c.in_ok-visit_slot.ensures.counted;
   reports = c.in_ok-visit_slot.ensures.reports ∙ c.loop-wire.invariant.reports;
 }
 
@@ -47,7 +47,7 @@ returns-clause-went g c = goes-all c.args.woken.now (drop c.loop-wire.wire-index
     (drop_all c.loop-wire.wire-index c.args.woken.now c.loop-wire-test.false) c.loop-wire.invariant.went
 
 pub returns-in_err-visit_slot-clause-keeps : goal.returns-in_err-visit_slot-clause-keeps
-returns-in_err-visit_slot-clause-keeps g c = keeps-then part.All _ _ _ c.loop-wire.invariant.keeps c.visit_slot.ensures.keeps
+returns-in_err-visit_slot-clause-keeps g c = λ room. keeps-then (part.All room) _ _ _ (c.loop-wire.invariant.keeps room) (c.visit_slot.ensures.keeps room)
 
 pub loop-wire-init : goal.loop-wire-init
 loop-wire-init g c = search (rules, keeps-same, counts-none)

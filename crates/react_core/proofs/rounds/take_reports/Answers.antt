@@ -16,7 +16,7 @@ loop-report-init g c = record {
   capacity = refl;
   armed = TriedSoFar-none _ _;
   cause = refl;
-  keeps = record { origin = refl; moment = refl; poller = tt; wires = refl; dials = refl; doors = refl; ample = refl };
+  keeps = record { origin = refl; moment = refl; poller = tt; rooms = refl; wires = refl; dials = refl; doors = refl; ample = refl };
   memory = tt;
 }
 

@@ -12,7 +12,8 @@ pub returns-clause-keeps : goal.returns-clause-keeps
 returns-clause-keeps c =
     let now : c.dial.new.player.told.items ≡ c.args.self.now.told ++ event.Dial c.args.wire (question.Unix c.args.path.now) (dialled c.dial.result) ∷ [] = grind (arith, common_steps) in
     let script : script_of c.dial.new.player.answers ≡ c.args.self.now.script = grind (arith, common_steps) in
-    keeps_dial c.args.self.now (record { script = script_of c.dial.new.player.answers; told = c.dial.new.player.told.items }) c.args.wire (question.Unix c.args.path.now) (dialled c.dial.result) script now
+    let rooms : c.dial.new.player.rooms ≡ c.args.self.now.rooms = grind (arith, common_steps) in
+    keeps_dial c.args.self.now (record { script = script_of c.dial.new.player.answers; rooms = c.dial.new.player.rooms; told = c.dial.new.player.told.items }) c.args.wire (question.Unix c.args.path.now) (dialled c.dial.result) script rooms now
 
 pub returns-clause-cause : goal.returns-clause-cause
 returns-clause-cause c =
