@@ -1,4 +1,6 @@
 pub mod Sessions
 pub mod Parts
-pub mod Dialled
+pub mod Outcomes
+pub mod Dialling
 pub mod Alone
+pub mod Laws

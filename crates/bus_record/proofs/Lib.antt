@@ -1,0 +1,10 @@
+mod Computes
+mod RowProofs
+mod RunLemmas
+mod RefusalProofs
+mod Unique
+mod Waiting
+mod Flat
+mod Comes
+mod Closing
+mod Pauses

@@ -1,0 +1,9 @@
+pub mod Pieces
+pub mod Places
+pub mod Visits
+pub mod Going
+pub mod Settled
+pub mod Headline
+pub mod Rows
+pub mod Refusals
+pub mod Laws
