@@ -19,9 +19,10 @@ use Rattle.bus_session.specs.declared.ended.Ended.{Ended}
 use Rattle.bus_session.specs.declared.session.Session.{Session}
 use Rattle.bus_peers.specs.declared.visiting.Slot.{Slot}
 use Rattle.bus_peers.specs.declared.visiting.Slot.TheVariants as slot
-use Rattle.bus_session.specs.Dialled.{first_question, conversation}
+use Rattle.bus_session.specs.Dialling.{conversation}
+use Rattle.bus_peers.specs.Conversations.{unix_wire, AsksFirst}
 use Rattle.bus_peers.specs.Registry.{Idle, held_at, with_held}
-use Rattle.bus_peers.specs.Settled.{waits_in}
+use Rattle.bus_peers.specs.Counts.{waits_in}
 use Rattle.bus_peers.specs.Shown.{AllSane, Rests, shown, Tags, tags, tag_at, without_tag, has_wire, Single}
 use Rattle.bus_peers.specs.Visited.{KeepsCall, Holds, Stays, Registers, FirstTags, FirstVisits, undialled, dialled, dial_event}
 use Rattle.bus_peers.proofs.Registries.{held_at-shown, with_new-shown}
@@ -96,7 +97,7 @@ module _ (old mid : Core) (wire key : ℕ) (free : source_of old.sources key ≡
       )
   inserted-tags r1 r2 new client slot.Refused new_wire (h, h', calls, o, x) = absurd x.stays
 
-  pub inserted-registers : (s : Session) (passes : Bool) (r0 r1 r2 : Option (List Event)) (new : Core) (client : Opening) (c : Slot) → (talk : List (List ℕ) → Said) × (conversation s.party passes ≡ talk) × StandsIn talk [] client → client.written ≡ [] →
+  pub inserted-registers : (s : Session) (passes : Bool) (r0 r1 r2 : Option (List Event)) (new : Core) (client : Opening) (c : Slot) → (talk : List (List ℕ) → Said) × (conversation s.party (unix_wire passes) ≡ talk) × StandsIn talk [] client → client.written ≡ [] →
       r1 ≡ told r0 (event.Add wire key true ∷ []) → Stays wire key r1 r2 mid new client c → Registers s wire passes r0 r2 old new c
   inserted-registers s passes r0 r1 r2 new client c (talk, begun, stands) unwritten added stays =
       let S : Option (List Event) → Type 0 = λ r. Stays wire key r r2 mid new client c in (
@@ -131,7 +132,7 @@ insert-keeps wire (react_error.Exhausted counter value) r0 r1 old new rests gain
 
 -- what the dialling told
 abbrev pub Dials : Session → ℕ → Option Opened → Option (List Event) → Option (List Event) → Type 0
-Dials s wire opened r0 r1 = (asked : Question) × (first_question s.party ≡ Some asked) × (r1 ≡ told r0 (dial_event wire asked opened ∷ []))
+Dials s wire opened r0 r1 = (asked : Question) × AsksFirst s asked × (r1 ≡ told r0 (dial_event wire asked opened ∷ []))
 
 pub first-undialled : (s : Session) (wire : ℕ) (opened : Option Opened) (r0 r1 : Option (List Event)) (core : Core) (e : Ended) → Dials s wire opened r0 r1 → opened ≡ None →
     e ≡ record { ending = ending.Connection; written = []; leftover = []; wire = wire; moment = None } → FirstVisits s wire r0 r1 core core (slot.Ended e)

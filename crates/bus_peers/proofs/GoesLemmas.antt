@@ -1,11 +1,16 @@
 -- What a visit over the reactor comes to, in the record.
-use Rattle.std.proofs.Common.{rules, ◌≡◌, ◌≢◌, ℕ, ◌+◌, Bool, true, false, ◌==◌, if◌then◌else◌, List, [], ◌∷◌, ◌++◌, map, length, Option, Some, None, is_some, refl, sym, ◌∙◌, ap, subst, inl, arith}
+use Rattle.std.proofs.Common.{◌≡◌, ◌≢◌, ℕ, ◌+◌, ◌<◌, Bool, true, false, not, ◌||◌, ◌==◌, nat_lt, if◌then◌else◌, List, [], ◌∷◌, ◌++◌, map, length, Option, Some, None, is_some, is_none, refl, sym, ◌∙◌, ap, subst, inl, arith}
+use Rattle.std.specs.Prelude.{count_by, fold, sum_by}
 use Rattle.std.specs.Option.{option_map, option_and_then}
 use Rattle.std.proofs.lemmas.List.{append_assoc, append-nil}
-use Rattle.std.proofs.lemmas.Bool.{both_ways, ne_eqb, eq-eqb}
+use Rattle.std.proofs.lemmas.List.Sums.{sum_by-append, fold-append}
+use Rattle.std.proofs.lemmas.Bool.{both_ways, ne_eqb, eq-eqb, and_parts, lt-ltb}
 use Rattle.std.proofs.lemmas.Option.{none-some, same_Some}
 use Rattle.react_core.specs.declared.outside.Event.{Event}
 use Rattle.react_core.specs.declared.outside.Event.TheVariants as event
+use Rattle.react_core.specs.declared.outside.RecvAnswer.TheVariants as recv_answer
+use Rattle.react_core.specs.declared.outside.SendAnswer.TheVariants as send_answer
+use Rattle.react_core.specs.declared.outside.DialAnswer.{DialAnswer}
 use Rattle.react_core.specs.declared.outside.DialAnswer.TheVariants as dial_answer
 use Rattle.react_core.specs.declared.outside.Question.{Question}
 use Rattle.react_core.specs.declared.outside.Question.TheVariants as question
@@ -13,390 +18,599 @@ use Rattle.react_core.specs.declared.reactor.Dir.{Dir}
 use Rattle.react_core.specs.declared.reactor.Dir.TheVariants.{Read, Write}
 use Rattle.react_core.specs.Core.{Core, inserted}
 use Rattle.react_core.specs.Told.{told, told-told}
-use Rattle.bus_opening.specs.Talk.{Said}
+use Rattle.bus_opening.specs.Talk.{Said, talk, ask, ask_from}
+use Rattle.bus_opening.specs.Client.{client, piece, opening, terms_of}
+use Rattle.bus_opening.specs.Server.{server}
 use Rattle.bus_opening.specs.Openings.{Opening, StandsIn}
 use Rattle.bus_session.specs.declared.ended.Ending.{Ending}
 use Rattle.bus_session.specs.declared.ended.Ending.TheVariants as ending
 use Rattle.bus_session.specs.declared.ended.Ended.{Ended}
 use Rattle.bus_session.specs.declared.session.Session.{Session}
+use Rattle.bus_session.specs.declared.session.Party.{Party}
+use Rattle.bus_session.specs.declared.session.Party.TheVariants as party
+use Rattle.bus_session.specs.Sessions.{is_built, is_built_party}
+use Rattle.bus_session.specs.Dialling.{Dialling, Opened, asks as dial_asks, fails, opens, the_wire, is_same, answered, dialled, conversation}
+use Rattle.bus_session.specs.Parts.{part}
+use Rattle.bus_session.specs.Outcomes.{Outcome, outcome, is_waiting, is_ended}
+use Rattle.bus_session.specs.Alone.{Course, course, first_course, converses, silence, came_to, goes_through, outcome_of, outcome_in, has_reached, alone}
+use Rattle.bus_record.specs.Pieces as pieces
+use Rattle.bus_record.specs.Pieces.{Pieces, ◌▸◌, visit, is_modify}
+use Rattle.bus_record.specs.Places.{key_of, key_by, key_through, waits, waits_through, paused, last_stop, moment, last_reading}
+use Rattle.bus_record.specs.Visits.{Here, here, Visit}
+use Rattle.bus_record.specs.Settled.{comes_to}
+use Rattle.bus_record.specs.Headline.{IsEnding}
 use Rattle.bus_peers.specs.declared.visiting.Slot.{Slot}
 use Rattle.bus_peers.specs.declared.visiting.Slot.TheVariants as slot
 use Rattle.bus_peers.specs.declared.visiting.Sleeper.{Sleeper}
-use Rattle.bus_session.specs.Parts.{part}
-use Rattle.bus_address.specs.Plain.{plain_path}
-use Rattle.bus_session.specs.declared.session.Party.{Party}
-use Rattle.bus_session.specs.declared.session.Party.TheVariants as party
-use Rattle.bus_session.specs.Dialled.{first_question, conversation, dialled, fails, opens, is_same}
-use Rattle.bus_session.specs.Alone.{Outcome, dials, goes_through, outcome_of, alone, outcome, HasEnded}
+use Rattle.bus_peers.specs.Counts.{waits_in}
+use Rattle.bus_peers.specs.Calls.{AreCalls}
 use Rattle.bus_peers.specs.Headline.{after_begun}
-use Rattle.bus_peers.specs.Registry.{Held, Idle, waits, side_held, held_at, with_held, registry}
-use Rattle.bus_peers.specs.Asking.{asks, begins, last_stop}
-use Rattle.bus_peers.specs.Settled.{is_armed, Sleeps, undialled, first, again, Stay, ends, sleeps, AreCalls, waits_in, armings_in}
+use Rattle.bus_peers.specs.Registry.{Held, Idle, Waits, Reported, waits as held_waits, side_held, stopped_held, held_at, with_held, idle, registry}
+use Rattle.bus_peers.specs.Asking.{Asking, asks, asking_at, asking_next, begins, arms_at}
+use Rattle.bus_peers.specs.Shows.{IsSide, StandsAt, Shows}
+use Rattle.bus_peers.specs.Stays.{FirstDial, opened_course, Converses, Concludes, LeavesAsleep}
 use Rattle.bus_peers.specs.Shown.{Rests, shown}
-use Rattle.bus_peers.specs.Slots.{Talking, Stands, Goes}
+use Rattle.bus_peers.specs.Slots.{Talking, IsNew, Stands, Goes}
+use Rattle.bus_peers.specs.Conversations.{unix_wire, AsksFirst}
 use Rattle.bus_peers.specs.Visited as visited
-use Rattle.bus_peers.specs.Visited.{is_awake, arms_told, stands_at, Pauses, Stays, Stayed, Registered, FirstVisits}
-use Rattle.bus_peers.proofs.Talks.{bytes_eq-refl, part-append, registry-append, last_stop-append, goes-append, waits_in-append, armings_in-append, part-own, part-other, calls-no-armings}
+use Rattle.bus_peers.specs.Visited.{is_awake, arms_told, stands_at, Pauses, Stays, Stayed, FirstVisits}
+use Rattle.bus_peers.proofs.Talks.{part-append, goes-append, waits_in-append, part-own, part-other}
+use Rattle.bus_peers.proofs.Sides.{side-waits}
+use Rattle.bus_peers.proofs.Keeps.{with-here}
 use Rattle.bus_peers.proofs.Readies.{begun-still}
-use Rattle.bus_peers.proofs.Keeps.{with-keeps, with-here, two-keys, held-key}
-use Rattle.bus_peers.proofs.Armings.{armed-append, calls-arm-none, visit-arms-other, visit-arms-own, arms-counted}
+use Rattle.bus_peers.proofs.OtherWires.{unvisited}
+use Rattle.bus_peers.specs.Laws.{ShowsHeld}
+use Rattle.bus_peers.proofs.StayShows.{failed-dial-shows, first-asleep-shows, first-over-shows, later-asleep-shows, later-over-shows}
+use Rattle.bus_peers.proofs.WholeVisits.{registered_at, stands-idle, first-question, first-visits-fail, first-visits-sleep, first-visits-end, later-visits-sleep, later-visits-end, stays-leave-places}
+
+-- ---- what the events of a visit leave as it was
+
+calls-armings : (wire : ℕ) (calls : List Event) → AreCalls wire calls → count_by is_modify calls ≡ 0
+calls-armings wire [] h = refl
+calls-armings wire (event.Recv on size answer ∷ calls) (h, hs) = calls-armings wire calls hs
+calls-armings wire (event.Send on offered answer ∷ calls) (h, hs) = calls-armings wire calls hs
+calls-armings wire (e ∷ calls) (h, hs) = absurd h
+
+armings-append : (a b : List Event) → count_by is_modify (a ++ b) ≡ count_by is_modify a + count_by is_modify b
+armings-append a b = sum_by-append _ a b
 
 plus_none : (a b : ℕ) → a ≡ 0 → a + b ≡ b
 plus_none a b e = omega arith
 
-other_dial : (wire w key : ℕ) (asked : Question) (passes : Bool) → w ≢ wire → part w (event.Dial wire asked (dial_answer.Opened passes) ∷ event.Add wire key true ∷ []) ≡ []
-other_dial wire w key asked passes other = rw (ne_eqb wire w (λ e. other (sym e))) refl
+pub armings-stay : (wire : ℕ) (calls tail : List Event) → AreCalls wire calls → count_by is_modify (calls ++ tail) ≡ count_by is_modify tail
+armings-stay wire calls tail own =
+    armings-append calls tail ∙ plus_none (count_by is_modify calls) (count_by is_modify tail) (calls-armings wire calls own)
 
--- ---- a session alone
+-- the calls of a wire make no reading
+calls-reading : (wire : ℕ) (calls tail : List Event) (last : Option ℕ) → AreCalls wire calls → last_reading last (calls ++ tail) ≡ last_reading last tail
+calls-reading wire [] tail last h = refl
+calls-reading wire (event.Recv on size answer ∷ calls) tail last (h, hs) = calls-reading wire calls tail last hs
+calls-reading wire (event.Send on offered answer ∷ calls) tail last (h, hs) = calls-reading wire calls tail last hs
+calls-reading wire (e ∷ calls) tail last (h, hs) = absurd h
 
--- an ending that is not Waiting
-pub awake-not_waiting : (e : Ending) → is_awake e ≡ true → e ≢ ending.Waiting
-awake-not_waiting e up same = let asleep : is_awake ending.Waiting ≡ true = subst (λ x. is_awake x ≡ true) same up in absurd (search rules)
+-- nor do they touch a key
+calls-key : (wire : ℕ) (calls : List Event) (key : Option ℕ) → AreCalls wire calls → key_through key calls ≡ key
+calls-key wire [] key h = refl
+calls-key wire (event.Recv on size answer ∷ calls) key (h, hs) = calls-key wire calls key hs
+calls-key wire (event.Send on offered answer ∷ calls) key (h, hs) = calls-key wire calls key hs
+calls-key wire (e ∷ calls) key (h, hs) = absurd h
+
+key-append : (key : Option ℕ) (a b : List Event) → key_through key (a ++ b) ≡ key_through (key_through key a) b
+key-append key a b = fold-append key_by key a b
+
+-- ---- the arming that a visit ends with
+
+-- it is one Modify, or nothing
+record IsArming (o : Option (List Event)) : Type 0 where
+  counted : count_by is_modify (arms_told o) ≡ length (arms_told o)
+  unread : (last : Option ℕ) → last_reading last (arms_told o) ≡ last
+  keyless : (key : Option ℕ) → key_through key (arms_told o) ≡ key
+
+one-arming : (c : Bool) (wire key : ℕ) (read write : Bool) → IsArming (Some (if c then event.Modify wire key read write true ∷ [] else []))
+one-arming true wire key read write = record { counted = refl; unread = λ last. refl; keyless = λ k. refl }
+one-arming false wire key read write = record { counted = refl; unread = λ last. refl; keyless = λ k. refl }
+
+no-arming : IsArming None
+no-arming = record { counted = refl; unread = λ last. refl; keyless = λ k. refl }
+
+arms-arming : (dir : Dir) (h : Held) (b : _) → IsArming (arms_at dir h b)
+arms-arming dir h Idle =
+    let x : Held = stopped_held dir h in one-arming (held_waits x.read || held_waits x.write) x.wire x.key (held_waits x.read) (held_waits x.write)
+arms-arming dir h Waits = one-arming false 0 0 false false
+arms-arming dir h Reported = no-arming
+
+event-arming : (t : Asking) (e : Event) → IsArming t.over → IsArming (asking_at t e).over
+event-arming t (event.Recv w asked recv_answer.NotReady) is = arms-arming Read t.held (side_held Read t.held)
+event-arming t (event.Send w offered send_answer.NotReady) is = arms-arming Write t.held (side_held Write t.held)
+event-arming t e is = is
+
+asks-none : (calls : List Event) (t : Asking) → asks None calls ≡ Some t → ⊥
+asks-none [] t is = none-some t is
+asks-none (e ∷ calls) t is = asks-none calls t is
+
+arming-go : (t : Asking) (e : Event) (calls : List Event) (t' : Asking) (b : Bool) → is_some t.over ≡ b → IsArming t.over →
+    asks (Some t) (e ∷ calls) ≡ Some t' → (asks (Some (asking_at t e)) calls ≡ Some t' → IsArming t'.over) → IsArming t'.over
+arming-go t e calls t' true over is asked ih = absurd (asks-none calls t' (rw over at asked))
+arming-go t e calls t' false over is asked ih = ih (rw over at asked)
+
+asks-arming : (t : Asking) (calls : List Event) (t' : Asking) → IsArming t.over → asks (Some t) calls ≡ Some t' → IsArming t'.over
+asks-arming t [] t' is asked = subst (λ (x : Asking). IsArming x.over) (same_Some t t' asked) is
+asks-arming t (e ∷ calls) t' is asked =
+    arming-go t e calls t' (is_some t.over) refl is asked (asks-arming (asking_at t e) calls t' (event-arming t e is))
+
+is-arming : (h h' : Held) (calls : List Event) (o : Option (List Event)) → asks (Some (begins h)) calls ≡ Some (record { held = h'; over = o }) → IsArming o
+is-arming h h' calls o asked = asks-arming (begins h) calls (record { held = h'; over = o }) no-arming asked
+
+-- ---- the session alone
 
 pub part-quiet : (w : ℕ) (q v : List Event) → part w v ≡ [] → part w (q ++ v) ≡ part w q
 part-quiet w q v none = part-append w q v ∙ (ap (λ x. part w q ++ x) none ∙ append-nil (part w q))
 
--- where the session's conversation stands, it goes on with these calls
-alone-more : (s : Session) (wire : ℕ) (q calls : List Event) (talk : List (List ℕ) → Said) (b : List ℕ) (paused : Bool) (c : Opening) →
-    goes_through s.party (option_map dials (first_question s.party)) (part wire q) ≡ Some (stands_at talk b c paused) → AreCalls wire calls →
-    alone s (part wire (q ++ calls)) ≡ option_and_then outcome_of (goes_through s.party (Some (stands_at talk b c paused)) calls)
-unfolding alone
-alone-more s wire q calls talk b paused c through own =
-    ap (λ x. option_and_then outcome_of (goes_through s.party (option_map dials (first_question s.party)) x)) (part-append wire q calls ∙ ap (λ x. part wire q ++ x) (part-own wire calls own))
-    ∙ (ap (option_and_then outcome_of) (goes-append s.party (option_map dials (first_question s.party)) (part wire q) calls)
-    ∙ ap (λ t. option_and_then outcome_of (goes_through s.party t calls)) through)
+-- an ending that is not Waiting
+pub awake-ends : (e : Ending) → is_awake e ≡ true → is_waiting e ≡ false
+awake-ends ending.Waiting up = absurd (both_ways false refl up)
+awake-ends (ending.Open guid flag) up = refl
+awake-ends ending.Unsupported up = refl
+awake-ends ending.Connection up = refl
+awake-ends ending.Io up = refl
+awake-ends ending.Handshake up = refl
+awake-ends ending.LineTooLong up = refl
+awake-ends ending.TooManyCommands up = refl
+awake-ends ending.TimedOut up = refl
 
-through-more : (s : Session) (wire : ℕ) (q calls : List Event) (talk : List (List ℕ) → Said) (b b' : List ℕ) (paused : Bool) (c c' : Opening) →
-    goes_through s.party (option_map dials (first_question s.party)) (part wire q) ≡ Some (stands_at talk b c paused) → AreCalls wire calls → Pauses talk b c c' calls b' →
-    goes_through s.party (option_map dials (first_question s.party)) (part wire (q ++ calls)) ≡ Some (stands_at talk b' c' true)
-through-more s wire q calls talk b b' paused c c' through own goes =
-    ap (goes_through s.party (option_map dials (first_question s.party))) (part-append wire q calls ∙ ap (λ x. part wire q ++ x) (part-own wire calls own))
-    ∙ (goes-append s.party (option_map dials (first_question s.party)) (part wire q) calls
-    ∙ (ap (λ t. goes_through s.party t calls) through ∙ goes.through paused s.party))
+-- a course that came to something is one
+came-through : (late : Bool) (c : Option Course) (o : Outcome) → option_and_then (outcome_of late) c ≡ Some o → (d : Course) × (c ≡ Some d) × (outcome_of late d ≡ Some o)
+came-through late None o is = absurd (none-some o is)
+came-through late (Some d) o is = (d, refl, is)
 
--- ---- a stay
+pub course-more : (s : Session) (a b : List Event) → course s (a ++ b) ≡ goes_through (course s a) b
+unfolding course
+course-more s a b = goes-append (first_course s) a b
 
--- what a stay over a registered wire comes to, in the record
-record StayGoes (s : Session) (wire : ℕ) (q : List Event) (key : ℕ) (before after : Option (List Event)) (old new : Core) (c : Slot) (v : List Event) : Type 0 where
-  gained : after ≡ told before v
-  stay : Stay s wire q key v
-  shows : registry [] (q ++ v) ≡ map shown new.sources
-  others : (w : ℕ) → w ≢ wire → part w v ≡ []
-  keeps : (k : ℕ) (x : Held) → held_at (registry [] q) k ≡ Some x → x.wire ≢ wire → held_at (registry [] (q ++ v)) k ≡ Some x
-  arms : (k : ℕ) (x : Held) (d : Dir) → held_at (registry [] q) k ≡ Some x → x.wire ≢ wire → is_armed k d false (q ++ v) ≡ is_armed k d false q
-  rests : Rests new
-  ticker : new.ticker ≡ old.ticker
-  made : new.made ≡ old.made
-  begun : new.begun ≡ after_begun old.begun (armings_in v)
-  waits : waits_in v ≡ 0
-  stands : (pending : List ℕ) → Stands s wire pending (q ++ v) c
+none-reached : (deadline moment : Option ℕ) → deadline ≡ None → has_reached deadline moment ≡ false
+none-reached deadline moment none = rw none refl
 
-stay-ends : (s : Session) (wire key : ℕ) (q calls : List Event) (h h' : Held) (o : Option (List Event)) → held_at (registry [] q) key ≡ Some h → h.wire ≡ wire → AreCalls wire calls →
-    asks (Some (begins h)) calls ≡ Some (record { held = h'; over = o }) → HasEnded s wire (q ++ calls) → o ≡ None → Stay s wire q key (calls ++ event.Delete wire key true ∷ [])
-stay-ends s wire key q calls h h' None at wired own asked over e = ends h h' calls at wired own asked over
-stay-ends s wire key q calls h h' (Some ms) at wired own asked over e = cc
+-- what the session comes to behind a visit in which it goes on so
+comes-after : (s : Session) (wire : ℕ) (past : Pieces) (v : List Event) (c d : Course) (own : List Event) (o : Outcome) →
+    course s (part wire (pieces.told past)) ≡ Some c → part wire v ≡ own → goes_through (Some c) own ≡ Some d →
+    outcome_of (has_reached s.deadline (moment wire (past ▸ visit wire v))) d ≡ Some o → comes_to s wire (past ▸ visit wire v) ≡ Some o
+comes-after s wire past v c d own o came mine goes is =
+    let at : Option ℕ = moment wire (past ▸ visit wire v) in
+    ap (λ x. option_and_then (outcome_of (has_reached s.deadline at)) (course s x)) (part-append wire (pieces.told past) v ∙ ap (λ x. part wire (pieces.told past) ++ x) mine)
+    ∙ (ap (option_and_then (outcome_of (has_reached s.deadline at))) (course-more s (part wire (pieces.told past)) own ∙ (ap (λ x. goes_through x own) came ∙ goes)) ∙ is)
 
-stay-sleeps : (s : Session) (wire key : ℕ) (q calls : List Event) (h h' : Held) (o : Option (List Event)) → held_at (registry [] q) key ≡ Some h → h.wire ≡ wire → AreCalls wire calls →
-    asks (Some (begins h)) calls ≡ Some (record { held = h'; over = o }) → Sleeps s wire (q ++ (calls ++ arms_told o)) → is_some o ≡ true → Stay s wire q key (calls ++ arms_told o)
-stay-sleeps s wire key q calls h h' None at wired own asked asleep e = cc
-stay-sleeps s wire key q calls h h' (Some ms) at wired own asked asleep e = sleeps h h' calls ms at wired own asked asleep
+pub course-after : (s : Session) (wire : ℕ) (past : Pieces) (v : List Event) (c d : Course) (own : List Event) →
+    course s (part wire (pieces.told past)) ≡ Some c → part wire v ≡ own → goes_through (Some c) own ≡ Some d →
+    course s (part wire (pieces.told (past ▸ visit wire v))) ≡ Some d
+course-after s wire past v c d own came mine goes =
+    ap (course s) (part-append wire (pieces.told past) v ∙ ap (λ x. part wire (pieces.told past) ++ x) mine)
+    ∙ (course-more s (part wire (pieces.told past)) own ∙ (ap (λ x. goes_through x own) came ∙ goes))
+
+-- ---- places behind a visit of the wire
+
+pub key-here : (wire : ℕ) (past : Pieces) (v : List Event) → key_of wire (past ▸ visit wire v) ≡ key_through (key_of wire past) v
+key-here wire past v = rw (eq-eqb wire wire refl) refl
+
+pub moment-here : (wire : ℕ) (past : Pieces) (v : List Event) → moment wire (past ▸ visit wire v) ≡ last_reading None v
+moment-here wire past v = rw (eq-eqb wire wire refl) refl
+
+pub paused-here : (wire : ℕ) (past : Pieces) (v : List Event) → paused wire (past ▸ visit wire v) ≡ last_stop (paused wire past) v
+paused-here wire past v = rw (eq-eqb wire wire refl) refl
+
+pub waits-here : (x : Dir) (wire : ℕ) (past : Pieces) (v : List Event) → waits x wire (past ▸ visit wire v) ≡ waits_through x (waits x wire past) v
+waits-here x wire past v = rw (eq-eqb wire wire refl) refl
+
+-- ---- a session that was visited before
 
 others-stay : (wire w : ℕ) (calls tail : List Event) → AreCalls wire calls → part w tail ≡ [] → w ≢ wire → part w (calls ++ tail) ≡ []
 others-stay wire w calls tail own none other = part-append w calls tail ∙ (ap (λ x. x ++ part w tail) (part-other wire w calls own other) ∙ none)
 
-armings-stay : (wire : ℕ) (calls tail : List Event) → AreCalls wire calls → armings_in (calls ++ tail) ≡ armings_in tail
-armings-stay wire calls tail own =
-    let split : armings_in (calls ++ tail) ≡ armings_in calls + armings_in tail = armings_in-append calls tail in
-    let none : armings_in calls ≡ 0 = calls-no-armings wire calls own in
-    let join : armings_in calls + armings_in tail ≡ armings_in tail = plus_none (armings_in calls) (armings_in tail) none in
-    split ∙ join
+own-stay : (wire : ℕ) (calls tail : List Event) → AreCalls wire calls → part wire tail ≡ [] → part wire (calls ++ tail) ≡ calls
+own-stay wire calls tail own none =
+    part-append wire calls tail ∙ (ap (λ x. x ++ part wire tail) (part-own wire calls own) ∙ (ap (λ x. calls ++ x) none ∙ append-nil calls))
 
 no-arms : (o : Option (List Event)) → o ≡ None → 0 ≡ length (arms_told o)
 no-arms None e = refl
 no-arms (Some ms) e = cc
 
--- a visit arms the sources of no other wire
-arms-stay : (wire : ℕ) (q calls tail : List Event) (k : ℕ) (d : Dir) → AreCalls wire calls → is_armed k d (is_armed k d false q) tail ≡ is_armed k d false q → is_armed k d false (q ++ (calls ++ tail)) ≡ is_armed k d false q
-arms-stay wire q calls tail k d own none =
-    armed-append k d false q (calls ++ tail)
-    ∙ (armed-append k d (is_armed k d false q) calls tail ∙ (ap (λ x. is_armed k d x tail) (calls-arm-none wire calls k d (is_armed k d false q) own) ∙ none))
+some-arms : (o : Option (List Event)) → is_some o ≡ true → (arm : List Event) × (o ≡ Some arm)
+some-arms None is = absurd (both_ways false refl is)
+some-arms (Some arm) is = (arm, refl)
 
--- the direction that this source waits for is armed after these events
-abbrev ArmedWhere : ℕ → List Event → Type 0
-ArmedWhere key q = (x : Held) (d : Dir) → held_at (registry [] q) key ≡ Some x → waits (side_held d x) ≡ true → is_armed key d false q ≡ true
+pub ended-out : (late : Bool) (d : Course) (e : Ended) → is_awake e.ending ≡ true → outcome_of late d ≡ Some (outcome e) → is_ended (outcome_in late d.progress) ≡ true
+ended-out late d e awake is = ap is_ended is ∙ ap not (awake-ends e.ending awake)
 
-module _ (s : Session) (wire key : ℕ) (q : List Event) (r0 r1 : Option (List Event)) (old new : Core) (c : Opening) (talk : List (List ℕ) → Said) (b : List ℕ) (paused : Bool)
-    (same : registry [] q ≡ map shown old.sources) (were : ArmedWhere key q) (stands : StandsIn talk b c)
-    (through : goes_through s.party (option_map dials (first_question s.party)) (part wire q) ≡ Some (stands_at talk b c paused)) where
-  shows-stay : (v : List Event) → registry (map shown old.sources) v ≡ map shown new.sources → registry [] (q ++ v) ≡ map shown new.sources
-  shows-stay v shows = registry-append [] q v ∙ (ap (λ y. registry y v) same ∙ shows)
-
-  keeps-stay : (v : List Event) → registry (map shown old.sources) v ≡ map shown new.sources →
-      ((k : ℕ) (x : Held) → held_at (map shown old.sources) k ≡ Some x → x.wire ≢ wire → held_at (map shown new.sources) k ≡ Some x) →
-      (k : ℕ) (x : Held) → held_at (registry [] q) k ≡ Some x → x.wire ≢ wire → held_at (registry [] (q ++ v)) k ≡ Some x
-  keeps-stay v shows keeps k x at other = ap (λ y. held_at y k) (shows-stay v shows) ∙ keeps k x (ap (λ y. held_at y k) (sym same) ∙ at) other
-
-  stay-ended : (e : Ended) (h h' : Held) (calls : List Event) (o : Option (List Event)) → Stayed wire key r0 r1 old new c (slot.Ended e) h h' calls o →
-      StayGoes s wire q key r0 r1 old new (slot.Ended e) (calls ++ event.Delete wire key true ∷ [])
-  stay-ended e h h' calls o x =
+module _ (s : Session) (wire key : ℕ) (past : Pieces) (r0 r1 : Option (List Event)) (old new : Core) (c : Opening) (talk : List (List ℕ) → Said) (b : List ℕ) (paused-so : Option Dir)
+    (built : s.deadline ≡ None) (shows : Shows past (map shown old.sources)) (stands : StandsIn talk b c)
+    (came : course s (part wire (pieces.told past)) ≡ Some (stands_at s.party talk b c paused-so))
+    (open_ : is_ended (outcome_in false (stands_at s.party talk b c paused-so).progress) ≡ false) where
+  again-ended : (e : Ended) (h h' : Held) (calls : List Event) (o : Option (List Event)) → Stayed wire key r0 r1 old new c (slot.Ended e) h h' calls o →
+      Goes s wire past r0 r1 old new (slot.Ended e) (calls ++ event.Delete wire key true ∷ [])
+  again-ended e h h' calls o x =
       let tail : List Event = event.Delete wire key true ∷ [] in
+      let v : List Event = calls ++ tail in
+      let begin : Course = stands_at s.party talk b c paused-so in
       let own : AreCalls wire calls = x.own talk b stands in
-      let out : alone s (part wire (q ++ calls)) ≡ Some (outcome e) = alone-more s wire q calls talk b paused c through own ∙ x.stays.ends talk b paused s.party stands in
-      let out' : alone s (part wire (q ++ (calls ++ tail))) ≡ Some (outcome e) = ap (λ y. alone s (part wire y)) (sym (append_assoc q calls tail)) ∙ (ap (alone s) (part-quiet wire (q ++ calls) tail refl) ∙ out) in
+      let late : Bool = has_reached s.deadline (moment wire (past ▸ visit wire v)) in
+      let d = came-through false (goes_through (Some begin) calls) (outcome e) (x.stays.ends talk b paused-so s.party false stands) in
+      let f = came-through late (goes_through (Some begin) calls) (outcome e) (x.stays.ends talk b paused-so s.party late stands) in
+      let source = shows.each key h x.was in
+      let conv : Converses wire h begin calls h' None d.0 =
+      record { called = own; asked = x.asked ∙ ap (λ y. Some (record { held = h'; over = y })) x.stays.over; through = d.1 } in
+      let over : Concludes begin d.0 = record { was_open = open_; ended = ended-out false d.0 e x.stays.awake d.2 } in
+      let V : ℕ → Type 0 = λ k. Visit s wire past (calls ++ event.Delete wire k true ∷ []) in
+      let G : ℕ → ℕ → Type 0 = λ w k. Shows (past ▸ visit w (calls ++ event.Delete w k true ∷ [])) (registry (map shown old.sources) (calls ++ event.Delete w k true ∷ [])) in
+      let g : G h.wire h.key = later-over-shows past (map shown old.sources) h h' calls begin d.0 shows (ap (held_at (map shown old.sources)) source.0 ∙ x.was)
+          (subst (λ (w : ℕ). Converses w h begin calls h' None d.0) (sym x.wired) conv) in
       record {
         gained = x.gained;
-        stay = stay-ends s wire key q calls h h' o (ap (λ y. held_at y key) same ∙ x.was) x.wired own x.asked (outcome e, out, awake-not_waiting e.ending x.stays.awake) x.stays.over;
-        shows = shows-stay (calls ++ tail) x.shows;
+        visits = subst V source.0
+            (later-visits-end s wire past h h' calls begin d.0 built (ap (λ w. key_of w past) (sym x.wired) ∙ source.1.keyed)
+            (subst (λ (w : ℕ). StandsAt (here w past) h) x.wired source.1.stands) came conv over);
+        shows = subst (λ y. Shows (past ▸ visit wire v) y) x.shows (subst (λ (k : ℕ). G wire k) source.0 (subst (λ (w : ℕ). G w h.key) x.wired g));
         others = λ w other. others-stay wire w calls tail own refl other;
-        keeps = keeps-stay (calls ++ tail) x.shows x.keeps;
-        arms = λ k y d at other. arms-stay wire q calls tail k d own refl;
         rests = x.rests;
         ticker = x.ticker;
         made = x.made;
         begun = x.begun ∙ ap (after_begun old.begun) (sym (armings-stay wire calls tail own ∙ no-arms o x.stays.over));
         waits = x.waits;
-        stands = λ pending. record { wired = x.stays.wired; unread = x.stays.unread; awake = x.stays.awake; comes = out' };
-      }
-
-  arms-tail : (h h' : Held) (calls : List Event) (o : Option (List Event)) → asks (Some (begins h)) calls ≡ Some (record { held = h'; over = o }) → AreCalls wire calls → held_at (registry [] q) key ≡ Some h → h.wire ≡ wire →
-      (k : ℕ) (x : Held) (d : Dir) → held_at (registry [] q) k ≡ Some x → x.wire ≢ wire → is_armed k d false (q ++ (calls ++ arms_told o)) ≡ is_armed k d false q
-  arms-tail h h' calls o asked own was wired = λ k x d at other.
-      let apart : k ≢ key = two-keys (registry [] q) key k x h wire was wired at other in
-      let ne : k ≢ h.key = λ e. apart (e ∙ held-key (registry [] q) key h was) in
-      arms-stay wire q calls (arms_told o) k d own (visit-arms-other h h' calls o k d (is_armed k d false q) asked ne)
-
-  armed-now : (h h' : Held) (calls : List Event) (o : Option (List Event)) → asks (Some (begins h)) calls ≡ Some (record { held = h'; over = o }) → AreCalls wire calls → held_at (registry [] q) key ≡ Some h →
-      (d : Dir) → waits (side_held d h') ≡ true → is_armed key d false (q ++ (calls ++ arms_told o)) ≡ true
-  armed-now h h' calls o asked own was = λ d up.
-      let b0 : Bool = is_armed key d false q in
-      let A : ℕ → Type 0 = λ k. is_armed k d b0 (arms_told o) ≡ true in
-      let last : is_armed key d b0 (arms_told o) ≡ true = subst A (held-key (registry [] q) key h was) (visit-arms-own h h' calls o d b0 asked up (were h d was)) in
-      armed-append key d false q (calls ++ arms_told o)
-      ∙ (armed-append key d b0 calls (arms_told o) ∙ (ap (λ y. is_armed key d y (arms_told o)) (calls-arm-none wire calls key d b0 own) ∙ last))
-
-  stay-asleep : (sl : Sleeper) (h h' : Held) (calls : List Event) (o : Option (List Event)) (b' : List ℕ) → Stayed wire key r0 r1 old new c (slot.Asleep sl) h h' calls o → Pauses talk b c sl.client calls b' →
-      StayGoes s wire q key r0 r1 old new (slot.Asleep sl) (calls ++ arms_told o)
-  stay-asleep sl h h' calls o b' x goes =
-      let tail : List Event = arms_told o in
-      let v : List Event = calls ++ tail in
-      let own : AreCalls wire calls = x.own talk b stands in
-      let quiet : part wire (q ++ v) ≡ part wire (q ++ calls) = ap (part wire) (sym (append_assoc q calls tail)) ∙ part-quiet wire (q ++ calls) tail (x.apart wire) in
-      let out : alone s (part wire (q ++ calls)) ≡ Some (record { ending = ending.Waiting; written = sl.client.written; leftover = sl.client.rest }) =
-      alone-more s wire q calls talk b paused c through own ∙ (ap (option_and_then outcome_of) (goes.through paused s.party) ∙ goes.waiting) in
-      let out' : alone s (part wire (q ++ v)) ≡ Some (record { ending = ending.Waiting; written = sl.client.written; leftover = sl.client.rest }) = ap (alone s) quiet ∙ out in
-      let paused' : last_stop None (part wire (q ++ v)) ≡ Some x.stays.stops.dir =
-      ap (last_stop None) (quiet ∙ (part-append wire q calls ∙ ap (λ y. part wire q ++ y) (part-own wire calls own)))
-      ∙ (last_stop-append None (part wire q) calls ∙ x.stays.stops.last (last_stop None (part wire q))) in
-      let held' : held_at (registry [] (q ++ v)) key ≡ Some h' = ap (λ y. held_at y key) (shows-stay v x.shows) ∙ x.stays.held in
-      let was : held_at (registry [] q) key ≡ Some h = ap (λ y. held_at y key) same ∙ x.was in
-      let armed' : (d : Dir) → waits (side_held d h') ≡ true → is_armed key d false (q ++ v) ≡ true = armed-now h h' calls o x.asked own was in
-      let key' : h'.key ≡ key = held-key (registry [] (q ++ v)) key h' held' in
-      record {
-        gained = x.gained;
-        stay = stay-sleeps s wire key q calls h h' o was x.wired own x.asked
-            (record {
-              came = record { ending = ending.Waiting; written = sl.client.written; leftover = sl.client.rest };
-              alone_so = out';
-              waiting = refl;
-              dir = x.stays.stops.dir;
-              paused = paused';
-              held = h';
-              registered = ap (held_at (registry [] (q ++ v))) key' ∙ held';
-              own = x.wired';
-              armed = ap (λ k. is_armed k x.stays.stops.dir false (q ++ v)) key' ∙ armed' x.stays.stops.dir x.stays.stops.side;
-              unreported = x.stays.stops.side;
-            }) x.stays.over;
-        shows = shows-stay v x.shows;
-        others = λ w other. others-stay wire w calls tail own (x.apart w) other;
-        keeps = keeps-stay v x.shows x.keeps;
-        arms = arms-tail h h' calls o x.asked own was x.wired;
-        rests = x.rests;
-        ticker = x.ticker;
-        made = x.made;
-        begun = x.begun ∙ ap (after_begun old.begun) (sym (armings-stay wire calls tail own ∙ arms-counted h h' calls o x.asked));
-        waits = x.waits;
         stands = λ pending. record {
-          open_ = x.stays.open_;
-          comes = out';
-          talking = record {
-            talk = talk;
-            got = b';
-            stands = goes.stands;
-            through = ap (goes_through s.party (option_map dials (first_question s.party))) quiet ∙ through-more s wire q calls talk b b' paused c sl.client through own goes;
+          comes = record {
+            on = x.stays.wired;
+            at = x.stays.unread ∙ sym (moment-here wire past v ∙ calls-reading wire calls tail None own);
+            comes = comes-after s wire past v begin f.0 calls (outcome e) came (own-stay wire calls tail own refl) f.1 f.2;
           };
-          paused = record {
-            held = h';
-            registered = ap (held_at (registry [] (q ++ v))) x.stays.at ∙ held';
-            own = x.wired';
-            dir = x.stays.stops.dir;
-            last = paused';
-            armed = λ d up. ap (λ k. is_armed k d false (q ++ v)) x.stays.at ∙ armed' d up;
-            waits_or_due = inl x.stays.stops.side;
-          };
+          awake = x.stays.awake;
+          gone = key-here wire past v ∙ key-append (key_of wire past) calls tail;
         };
       }
 
-  asleep-found : (sl : Sleeper) (h h' : Held) (calls : List Event) (o : Option (List Event)) → Stayed wire key r0 r1 old new c (slot.Asleep sl) h h' calls o → (b' : List ℕ) × Pauses talk b c sl.client calls b' →
-      (v : List Event) × StayGoes s wire q key r0 r1 old new (slot.Asleep sl) v
-  asleep-found sl h h' calls o x (b', goes) = (calls ++ arms_told o, stay-asleep sl h h' calls o b' x goes)
+  again-asleep : (sl : Sleeper) (h h' : Held) (calls : List Event) (o : Option (List Event)) (b' : List ℕ) → Stayed wire key r0 r1 old new c (slot.Asleep sl) h h' calls o →
+      Pauses talk b c sl.client calls b' → (arm : List Event) → o ≡ Some arm →
+      Goes s wire past r0 r1 old new (slot.Asleep sl) (calls ++ arms_told o)
+  again-asleep sl h h' calls o b' x goes arm is =
+      let tail : List Event = arms_told o in
+      let v : List Event = calls ++ tail in
+      let begin : Course = stands_at s.party talk b c paused-so in
+      let end : Course = stands_at s.party talk b' sl.client (Some goes.dir) in
+      let own : AreCalls wire calls = x.own talk b stands in
+      let source = shows.each key h x.was in
+      let arming : IsArming o = is-arming h h' calls o x.asked in
+      let keyed : key_of wire past ≡ Some h.key = ap (λ w. key_of w past) (sym x.wired) ∙ source.1.keyed in
+      let sides : StandsAt (here wire past) h = subst (λ (w : ℕ). StandsAt (here w past) h) x.wired source.1.stands in
+      let conv : Converses wire h begin calls h' (Some arm) end =
+      record { called = own; asked = x.asked ∙ ap (λ y. Some (record { held = h'; over = y })) is; through = goes.through paused-so s.party } in
+      let told-so : calls ++ arm ≡ v = ap (λ y. calls ++ arms_told y) (sym is) in
+      let G : ℕ → Type 0 = λ w. ShowsHeld (past ▸ visit w (calls ++ arm)) (registry (map shown old.sources) (calls ++ arm)) h.key h' in
+      let g : G h.wire = later-asleep-shows past (map shown old.sources) h h' calls arm begin end shows (ap (held_at (map shown old.sources)) source.0 ∙ x.was)
+          (subst (λ (w : ℕ). Converses w h begin calls h' (Some arm) end) (sym x.wired) conv) in
+      let G' : List Event → Type 0 = λ y. Shows (past ▸ visit wire y) (registry (map shown old.sources) y) in
+      let leaves : LeavesAsleep (here wire past) h' v = subst (LeavesAsleep (here wire past) h') told-so (stays-leave-places wire (here wire past) h h' calls arm begin end sides conv) in
+      record {
+        gained = x.gained;
+        visits = subst (Visit s wire past) told-so (later-visits-sleep s wire past h h' calls arm begin end built keyed x.wired sides came conv);
+        shows = subst (λ y. Shows (past ▸ visit wire v) y) x.shows (subst G' told-so (subst G x.wired g).shows);
+        others = λ w other. others-stay wire w calls tail own (x.apart w) other;
+        rests = x.rests;
+        ticker = x.ticker;
+        made = x.made;
+        begun = x.begun ∙ ap (after_begun old.begun) (sym (armings-stay wire calls tail own ∙ arming.counted));
+        waits = x.waits;
+        stands = λ pending. record {
+          open_ = x.stays.open_;
+          unread = moment-here wire past v ∙ (calls-reading wire calls tail None own ∙ arming.unread None);
+          comes = comes-after s wire past v begin end calls _ came (own-stay wire calls tail own (x.apart wire)) (goes.through paused-so s.party)
+              (ap (λ late. outcome_of late end) (none-reached s.deadline (moment wire (past ▸ visit wire v)) built) ∙ goes.waiting s.party);
+          talking = record {
+            talk = talk;
+            got = b';
+            dir = goes.dir;
+            stands = goes.stands;
+            through = course-after s wire past v begin end calls came (own-stay wire calls tail own (x.apart wire)) (goes.through paused-so s.party);
+          };
+          paused = record {
+            registered = key-here wire past v ∙ (key-append (key_of wire past) calls tail ∙ (arming.keyless _ ∙ (calls-key wire calls (key_of wire past) own ∙ (keyed ∙ ap Some (source.0 ∙ sym x.stays.at)))));
+            dir = leaves.dir;
+            last = paused-here wire past v ∙ leaves.stop (paused wire past);
+            waits_or_due = inl (waits-here leaves.dir wire past v ∙ (side-waits _ _ (side_held leaves.dir h') (leaves.sides leaves.dir) ∙ leaves.waits));
+          };
+        };
+      }
+-- ---- a session that was not visited before
 
-  stay-goes : (c' : Slot) → Stays wire key r0 r1 old new c c' → (v : List Event) × StayGoes s wire q key r0 r1 old new c' v
-  stay-goes (slot.Ended e) (h, h', calls, o, x) = (calls ++ event.Delete wire key true ∷ [], stay-ended e h h' calls o x)
-  stay-goes (slot.Asleep sl) (h, h', calls, o, x) = asleep-found sl h h' calls o x (x.stays.goes talk b stands)
-  stay-goes slot.Refused (h, h', calls, o, x) = absurd x.stays
+-- the question that is asked
+abbrev asked_by : Question → Dialling → Question
+asked_by other (dial_asks question purpose) = question
+asked_by other d = other
 
--- ---- a session that was visited before
-
-again-by : (s : Session) (wire key : ℕ) (q : List Event) (r0 r1 : Option (List Event)) (old new : Core) (c : Slot) → (v : List Event) × StayGoes s wire q key r0 r1 old new c v → (v : List Event) × Goes s wire q r0 r1 old new c v
-again-by s wire key q r0 r1 old new c (v, x) = (
-  v,
-  record {
-    gained = x.gained;
-    visit = again v key x.stay;
-    shows = x.shows;
-    others = x.others;
-    keeps = x.keeps;
-    arms = x.arms;
-    rests = x.rests;
-    ticker = x.ticker;
-    made = x.made;
-    begun = x.begun;
-    waits = x.waits;
-    stands = x.stands;
-  },
-)
-
-pub goes-again : (s : Session) (wire key : ℕ) (q : List Event) (r0 r1 : Option (List Event)) (old new : Core) (c : Opening) (slot : Slot) → registry [] q ≡ map shown old.sources → ArmedWhere key q → Talking s wire q c →
-    Stays wire key r0 r1 old new c slot → (v : List Event) × Goes s wire q r0 r1 old new slot v
-goes-again s wire key q r0 r1 old new c slot same were talking stays =
-    again-by s wire key q r0 r1 old new slot (stay-goes s wire key q r0 r1 old new c talking.talk talking.got true same were talking.stands talking.through slot stays)
-
--- ---- a first visit
-
--- ---- the question of a session
-
--- what the answers to a session's question come to
-record Known (p : Party) (asked : Question) : Type 0 where
+-- its dialling asks this question, and is answered
+record Asked (s : Session) (wire : ℕ) (past : Pieces) (asked : Question) : Type 0 where
   same : is_same asked asked ≡ true
-  failed : dialled p asked dial_answer.Failed ≡ Some (fails ending.Connection)
-  opened : (passes : Bool) → dialled p asked (dial_answer.Opened passes) ≡ Some (opens (conversation p passes))
+  failed : FirstDial s wire past asked dial_answer.Failed (fails ending.Connection)
+  opened : (passes : Bool) → FirstDial s wire past asked (dial_answer.Opened passes) (opens (unix_wire passes))
 
-known-path : (p : Party) (asked : Question) (path : Option (List ℕ)) → option_map question.Unix path ≡ Some asked → Known p asked
-known-path p asked None is = absurd (none-some asked is)
-known-path p asked (Some path) is =
-    let K : Question → Type 0 = Known p in
-    subst K (same_Some (question.Unix path) asked is) (record { same = bytes_eq-refl path; failed = refl; opened = λ passes. refl })
+asked-first : (s : Session) (wire : ℕ) (past : Pieces) (asked : Question) → is_built s ≡ true → AsksFirst s asked → IsNew wire past → Asked s wire past asked
+asked-first s wire past asked built first new =
+    let q = first-question s.party (and_parts (is_none s.deadline) (is_built_party s.party) built).1 in
+    let one : q.0 ≡ asked = ap (asked_by asked) (same_Some (dial_asks q.0 the_wire) (dial_asks asked the_wire) (sym q.1 ∙ first)) in
+    let same : is_same asked asked ≡ true = subst (λ (x : Question). is_same x x ≡ true) one q.2 in
+    record {
+      same = same;
+      failed = record {
+        first = dial_asks asked the_wire;
+        begins = first;
+        comes = ap (λ b. if b then answered the_wire dial_answer.Failed else None) same;
+        unvisited = new.unvisited;
+        unheard = new.unheard;
+      };
+      opened = λ passes. record {
+        first = dial_asks asked the_wire;
+        begins = first;
+        comes = ap (λ b. if b then answered the_wire (dial_answer.Opened passes) else None) same;
+        unvisited = new.unvisited;
+        unheard = new.unheard;
+      };
+    }
 
-known : (p : Party) (asked : Question) → first_question p ≡ Some asked → Known p asked
-known (party.Client address config) asked is = known-path (party.Client address config) asked (plain_path address) is
-known (party.Server config) asked is =
-    let K : Question → Type 0 = Known (party.Server config) in
-    subst K (same_Some question.Accept asked is) (record { same = refl; failed = refl; opened = λ passes. refl })
+course-dialled : (s : Session) (wire : ℕ) (asked : Question) (answer : DialAnswer) (d : Dialling) → AsksFirst s asked → dialled (dial_asks asked the_wire) asked answer ≡ Some d →
+    course s (event.Dial wire asked answer ∷ []) ≡ Some (record { party = s.party; progress = came_to s.party d })
+unfolding course
+course-dialled s wire asked answer d first comes = rw (first, comes) refl
 
--- the dialling failed
-alone-failed : (s : Session) (wire : ℕ) (asked : Question) → first_question s.party ≡ Some asked →
-    alone s (event.Dial wire asked dial_answer.Failed ∷ []) ≡ Some (record { ending = ending.Connection; written = []; leftover = [] })
-unfolding alone
-alone-failed s wire asked asks = let k : Known s.party asked = known s.party asked asks in rw (asks, k.same, k.failed) refl
+dial-part : (w : ℕ) (asked : Question) (answer : DialAnswer) (v : List Event) → part w (event.Dial w asked answer ∷ v) ≡ event.Dial w asked answer ∷ part w v
+dial-part w asked answer v = rw (eq-eqb w w refl) refl
 
-goes-undialled : (s : Session) (wire : ℕ) (q : List Event) (r0 r1 : Option (List Event)) (old : Core) (asked : Question) → registry [] q ≡ map shown old.sources → part wire q ≡ [] → Rests old →
-    first_question s.party ≡ Some asked → r1 ≡ told r0 (event.Dial wire asked dial_answer.Failed ∷ []) →
-    Goes s wire q r0 r1 old old (slot.Ended (record { ending = ending.Connection; written = []; leftover = []; wire = wire; moment = None })) (event.Dial wire asked dial_answer.Failed ∷ [])
-goes-undialled s wire q r0 r1 old asked same none rests asks gained =
+dial-other : (wire w : ℕ) (asked : Question) (answer : DialAnswer) (v : List Event) → w ≢ wire → part w (event.Dial wire asked answer ∷ v) ≡ part w v
+dial-other wire w asked answer v other = rw (ne_eqb wire w (λ e. other (sym e))) refl
+
+none-is : {X : Type 0} (o : Option X) → is_none o ≡ true → o ≡ None
+none-is None is = refl
+none-is (Some x) is = absurd (both_ways false refl is)
+
+pub built-late : (s : Session) → is_built s ≡ true → s.deadline ≡ None
+built-late s built = none-is s.deadline (and_parts (is_none s.deadline) (is_built_party s.party) built).0
+
+goes-undialled : (s : Session) (wire : ℕ) (past : Pieces) (r0 r1 : Option (List Event)) (old : Core) (asked : Question) → is_built s ≡ true → IsNew wire past → Rests old →
+    AsksFirst s asked → r1 ≡ told r0 (event.Dial wire asked dial_answer.Failed ∷ []) → Shows past (map shown old.sources) →
+    Goes s wire past r0 r1 old old (slot.Ended (record { ending = ending.Connection; written = []; leftover = []; wire = wire; moment = None })) (event.Dial wire asked dial_answer.Failed ∷ [])
+goes-undialled s wire past r0 r1 old asked built new rests first gained shows =
     let dial : Event = event.Dial wire asked dial_answer.Failed in
+    let v : List Event = dial ∷ [] in
+    let a : Asked s wire past asked = asked-first s wire past asked built first new in
     let o : Outcome = record { ending = ending.Connection; written = []; leftover = [] } in
-    let own : part wire (dial ∷ []) ≡ dial ∷ [] = rw (eq-eqb wire wire refl) refl in
-    let mine : part wire (q ++ dial ∷ []) ≡ dial ∷ [] = part-append wire q (dial ∷ []) ∙ (ap (λ x. x ++ part wire (dial ∷ [])) none ∙ own) in
-    let out : alone s (part wire (q ++ dial ∷ [])) ≡ Some o = ap (alone s) mine ∙ alone-failed s wire asked asks in
-    let still : registry [] (q ++ dial ∷ []) ≡ registry [] q = registry-append [] q (dial ∷ []) in
+    let mine : part wire (pieces.told past ++ v) ≡ v = part-append wire (pieces.told past) v ∙ (ap (λ x. x ++ part wire v) new.unheard ∙ dial-part wire asked dial_answer.Failed []) in
+    let late : Bool = has_reached s.deadline (moment wire (past ▸ visit wire v)) in
+    let comes : dialled (dial_asks asked the_wire) asked dial_answer.Failed ≡ Some (fails ending.Connection) = ap (λ b. if b then answered the_wire dial_answer.Failed else None) a.same in
     record {
       gained = gained;
-      visit = undialled (dial ∷ []) none (refl, tt {0}) (o, out, awake-not_waiting ending.Connection refl);
-      shows = still ∙ same;
-      others = λ w other. rw (ne_eqb wire w (λ e. other (sym e))) refl;
-      keeps = λ k x at other. ap (λ z. held_at z k) still ∙ at;
-      arms = λ k x d at other. armed-append k d false q (dial ∷ []);
+      visits = first-visits-fail s wire past asked dial_answer.Failed ending.Connection a.failed;
+      shows = failed-dial-shows wire past (map shown old.sources) asked dial_answer.Failed shows (unvisited wire past new.unvisited).key;
+      others = λ w other. dial-other wire w asked dial_answer.Failed [] other;
       rests = rests;
       ticker = refl;
       made = refl;
       begun = begun-still old.begun rests.fits;
       waits = refl;
-      stands = λ pending. record { wired = refl; unread = refl; awake = refl; comes = out };
+      stands = λ pending. record {
+        comes = record {
+          on = refl;
+          at = sym (moment-here wire past v);
+          comes = ap (λ x. option_and_then (outcome_of late) (course s x)) mine
+              ∙ ap (option_and_then (outcome_of late)) (course-dialled s wire asked dial_answer.Failed (fails ending.Connection) first comes);
+        };
+        awake = refl;
+        gone = key-here wire past v ∙ (unvisited wire past new.unvisited).key;
+      };
     }
 
--- the dialling opened a wire
-through-opened : (s : Session) (wire : ℕ) (asked : Question) (passes : Bool) (talk : List (List ℕ) → Said) (c : Opening) → first_question s.party ≡ Some asked → conversation s.party passes ≡ talk → c.written ≡ [] →
-    goes_through s.party (option_map dials (first_question s.party)) (event.Dial wire asked (dial_answer.Opened passes) ∷ []) ≡ Some (stands_at talk [] c false)
-through-opened s wire asked passes talk c asks begun unwritten = let k : Known s.party asked = known s.party asked asks in rw (asks, k.same, k.opened passes, begun, unwritten) refl
+-- ---- a conversation that begins is asked for something
 
-new_key : (held : List Held) (key k : ℕ) (x : Held) → held_at held key ≡ None → held_at held k ≡ Some x → key ≢ k
-new_key held key k x free at = λ e. let f : None ≡ Some x = sym free ∙ (ap (held_at held) e ∙ at) in cc
+some-length : (n : List ℕ) (c : ℕ) (l : List ℕ) → 0 < sum_by length ((piece n ++ (c ∷ l) ∷ []) ++ [])
+some-length [] c l = omega arith
+some-length (x ∷ n) c l = omega arith
 
--- a new source waits for nothing
-new-idle : (held : List Held) (h x : Held) (d : Dir) → held_at held h.key ≡ None → h.read ≡ Idle → h.write ≡ Idle → held_at (with_held held h) h.key ≡ Some x → waits (side_held d x) ≡ false
-new-idle held h x d free read write at = idle-of d (same_Some h x (sym (with-here held h free) ∙ at)) where
-  idle-of : (d : Dir) → h ≡ x → waits (side_held d x) ≡ false
-  idle-of Read is = ap (λ y. waits y.read) (sym is) ∙ ap waits read
-  idle-of Write is = ap (λ y. waits y.write) (sym is) ∙ ap waits write
+begins-open : (p : Party) (o : Opened) → is_ended (outcome_in false (converses (conversation p o) silence)) ≡ false
+unfolding client server ask ask_from talk
+begins-open (party.Client address config) o =
+    let more : nat_lt 0 (sum_by length ((opening (terms_of config None o.passes o.tcp o.nonce)) ++ [])) ≡ true = lt-ltb 0 _ (some-length o.nonce 0 _) in
+    rw more refl
+begins-open (party.Server config) o = refl
 
-first-by : (s : Session) (wire key : ℕ) (q : List Event) (r0 r1 : Option (List Event)) (old mid new : Core) (c : Slot) (asked : Question) (passes : Bool) → part wire q ≡ [] → held_at (registry [] q) key ≡ None → mid ≡ inserted old key wire →
-    (v : List Event) × StayGoes s wire (q ++ event.Dial wire asked (dial_answer.Opened passes) ∷ event.Add wire key true ∷ []) key
-    (told (told r0 (event.Dial wire asked (dial_answer.Opened passes) ∷ [])) (event.Add wire key true ∷ [])) r1 mid new c v → (v : List Event) × Goes s wire q r0 r1 old new c v
-first-by s wire key q r0 r1 old mid new c asked passes none free is (v, x) =
-    let dial : Event = event.Dial wire asked (dial_answer.Opened passes) in
-    let add : Event = event.Add wire key true in
-    let pre : List Event = dial ∷ add ∷ [] in
-    let held : Held = record { key = key; wire = wire; read = Idle; write = Idle } in
-    let assoc : (q ++ pre) ++ v ≡ q ++ (pre ++ v) = append_assoc q pre v in
-    let mid' : registry [] (q ++ pre) ≡ with_held (registry [] q) held = registry-append [] q pre in
-    let quiet : armings_in (pre ++ v) ≡ armings_in v = armings_in-append pre v ∙ plus_none 0 (armings_in v) refl in
-    let still : waits_in (pre ++ v) ≡ waits_in v = waits_in-append pre v ∙ plus_none 0 (waits_in v) refl in (
-      pre ++ v,
+-- ---- a wire was opened
+
+module _ (s : Session) (wire key : ℕ) (past : Pieces) (asked : Question) (passes : Bool) (r0 r1 : Option (List Event)) (old mid new : Core) (talk : List (List ℕ) → Said) (client : Opening)
+    (built : is_built s ≡ true) (fresh : IsNew wire past) (shows : Shows past (map shown old.sources)) (first : AsksFirst s asked)
+    (begun : conversation s.party (unix_wire passes) ≡ talk) (stands : StandsIn talk [] client) (unwritten : client.written ≡ [])
+    (free : held_at (map shown old.sources) key ≡ None) (core : mid ≡ inserted old key wire)
+    (added : with_held (map shown old.sources) (idle wire key) ≡ map shown mid.sources) where
+  abbrev dial : Event
+  dial = event.Dial wire asked (dial_answer.Opened passes)
+
+  abbrev add : Event
+  add = event.Add wire key true
+
+  -- a visit of these calls, behind the Dial and the Add
+  abbrev opened-visit : List Event → List Event
+  opened-visit v = dial ∷ (add ∷ v)
+
+  abbrev start : Course
+  start = opened_course s (unix_wire passes)
+
+  start-so : stands_at s.party talk [] client None ≡ start
+  start-so = λ i. record { party = s.party; progress = converses (sym begun i) (record { got = []; written = unwritten i; paused = None }) }
+
+  a : Asked s wire past asked
+  a = asked-first s wire past asked built first fresh
+
+  idle-here : (h : Held) → held_at (map shown mid.sources) key ≡ Some h → h ≡ idle wire key
+  idle-here h was = same_Some h (idle wire key) (sym was ∙ (ap (λ x. held_at x key) (sym added) ∙ with-here (map shown old.sources) (idle wire key) free))
+
+  heard : (v own : List Event) → part wire v ≡ own → part wire (pieces.told past ++ opened-visit v) ≡ dial ∷ own
+  heard v own mine =
+      part-append wire (pieces.told past) (opened-visit v)
+      ∙ (ap (λ x. x ++ part wire (opened-visit v)) fresh.unheard ∙ (dial-part wire asked (dial_answer.Opened passes) (add ∷ v) ∙ ap (λ x. dial ∷ x) mine))
+
+  course-here : (v own : List Event) (d : Course) → part wire v ≡ own → goes_through (Some start) own ≡ Some d →
+      course s (part wire (pieces.told (past ▸ visit wire (opened-visit v)))) ≡ Some d
+  course-here v own d mine goes =
+      ap (course s) (heard v own mine)
+      ∙ (course-more s (dial ∷ []) own
+      ∙ (ap (λ x. goes_through x own) (course-dialled s wire asked (dial_answer.Opened passes) (opens (unix_wire passes)) first
+          (ap (λ b. if b then answered the_wire (dial_answer.Opened passes) else None) a.same))
+      ∙ goes))
+
+  comes-here : (v own : List Event) (d : Course) (o : Outcome) → part wire v ≡ own → goes_through (Some start) own ≡ Some d →
+      outcome_of (has_reached s.deadline (moment wire (past ▸ visit wire (opened-visit v)))) d ≡ Some o → comes_to s wire (past ▸ visit wire (opened-visit v)) ≡ Some o
+  comes-here v own d o mine goes is =
+      ap (option_and_then (outcome_of (has_reached s.deadline (moment wire (past ▸ visit wire (opened-visit v)))))) (course-here v own d mine goes) ∙ is
+
+  gains : (v : List Event) → r1 ≡ told (told (told r0 (dial ∷ [])) (add ∷ [])) v → r1 ≡ told r0 (opened-visit v)
+  gains v gained = gained ∙ (ap (λ r. told r v) (told-told r0 (dial ∷ []) (add ∷ [])) ∙ told-told r0 (dial ∷ (add ∷ [])) v)
+
+  others-opened : (w : ℕ) (v : List Event) → w ≢ wire → part w v ≡ [] → part w (opened-visit v) ≡ []
+  others-opened w v other none = dial-other wire w asked (dial_answer.Opened passes) (add ∷ v) other ∙ none
+
+  first-ended : (e : Ended) (h h' : Held) (calls : List Event) (o : Option (List Event)) →
+      Stayed wire key (told (told r0 (dial ∷ [])) (add ∷ [])) r1 mid new client (slot.Ended e) h h' calls o →
+      Goes s wire past r0 r1 old new (slot.Ended e) (opened-visit (calls ++ event.Delete wire key true ∷ []))
+  first-ended e h h' calls o x =
+      let tail : List Event = event.Delete wire key true ∷ [] in
+      let v : List Event = calls ++ tail in
+      let own : AreCalls wire calls = x.own talk [] stands in
+      let late : Bool = has_reached s.deadline (moment wire (past ▸ visit wire (opened-visit v))) in
+      let E : Course → Bool → Type 0 = λ c b. option_and_then (outcome_of b) (goes_through (Some c) calls) ≡ Some (outcome e) in
+      let d = came-through false (goes_through (Some start) calls) (outcome e) (subst (λ c. E c false) start-so (x.stays.ends talk [] None s.party false stands)) in
+      let f = came-through late (goes_through (Some start) calls) (outcome e) (subst (λ c. E c late) start-so (x.stays.ends talk [] None s.party late stands)) in
+      let conv : Converses wire (idle wire key) start calls h' None d.0 = record {
+        called = own;
+        asked = ap (λ y. asks (Some (begins y)) calls) (sym (idle-here h x.was)) ∙ (x.asked ∙ ap (λ y. Some (record { held = h'; over = y })) x.stays.over);
+        through = d.1;
+      } in
+      let over : Concludes start d.0 = record { was_open = begins-open s.party (unix_wire passes); ended = ended-out false d.0 e x.stays.awake d.2 } in
       record {
-        gained = x.gained ∙ (ap (λ r. told r v) (told-told r0 (dial ∷ []) (add ∷ [])) ∙ told-told r0 pre v);
-        visit = first (dial ∷ []) v key none (refl, tt {0}) free x.stay;
-        shows = ap (registry []) (sym assoc) ∙ x.shows;
-        others = λ w other. part-append w pre v ∙ (ap (λ y. y ++ part w v) (other_dial wire w key asked passes other) ∙ x.others w other);
-        keeps = λ k y at other. ap (λ z. held_at (registry [] z) k) (sym assoc)
-            ∙ x.keeps k y (ap (λ z. held_at z k) mid' ∙ with-keeps (registry [] q) held k y at (new_key (registry [] q) key k y free at)) other;
-        arms = λ k y d at other.
-            let ne : key ≢ k = new_key (registry [] q) key k y free at in
-            let off : (key == k) ≡ false = ne_eqb key k ne in
-            let before : is_armed k d false (q ++ pre) ≡ is_armed k d false q = armed-append k d false q pre ∙ ap (λ z. if z then false else is_armed k d false q) off in
-            ap (is_armed k d false) (sym assoc) ∙ (x.arms k y d (ap (λ z. held_at z k) mid' ∙ with-keeps (registry [] q) held k y at ne) other ∙ before);
+        gained = gains v x.gained;
+        visits = first-visits-end s wire key past asked (dial_answer.Opened passes) (unix_wire passes) h' calls d.0 (built-late s built) (a.opened passes)
+            (shows.free key free) conv over;
+        shows = subst (λ y. Shows (past ▸ visit wire (opened-visit v)) y) (ap (λ y. registry y v) added ∙ x.shows)
+            (first-over-shows wire key past (map shown old.sources) asked (dial_answer.Opened passes) h' calls start d.0 shows fresh.unvisited free conv);
+        others = λ w other. others-opened w v other (others-stay wire w calls tail own refl other);
         rests = x.rests;
-        ticker = x.ticker ∙ ap (λ z. z.ticker) is;
-        made = x.made ∙ ap (λ z. z.made) is;
-        begun = x.begun ∙ (ap (λ z. after_begun z.begun (armings_in v)) is ∙ ap (after_begun old.begun) (sym quiet));
-        waits = still ∙ x.waits;
-        stands = λ pending. let S : List Event → Type 0 = λ y. Stands s wire pending y c in subst S assoc (x.stands pending);
-      },
-    )
+        ticker = x.ticker ∙ ap (λ y. y.ticker) core;
+        made = x.made ∙ ap (λ y. y.made) core;
+        begun = x.begun ∙ (ap (λ y. after_begun y.begun (length (arms_told o))) core ∙ ap (after_begun old.begun) (sym (armings-stay wire calls tail own ∙ no-arms o x.stays.over)));
+        waits = x.waits;
+        stands = λ pending. record {
+          comes = record {
+            on = x.stays.wired;
+            at = x.stays.unread ∙ sym (moment-here wire past (opened-visit v) ∙ calls-reading wire calls tail None own);
+            comes = comes-here v calls f.0 (outcome e) (own-stay wire calls tail own refl) f.1 f.2;
+          };
+          awake = x.stays.awake;
+          gone = key-here wire past (opened-visit v) ∙ key-append (Some key) calls tail;
+        };
+      }
 
-goes-opened : (s : Session) (wire : ℕ) (q : List Event) (r0 r1 : Option (List Event)) (old new : Core) (c : Slot) (asked : Question) (passes : Bool) (talk : List (List ℕ) → Said) (client : Opening) (key : ℕ) (mid : Core) →
-    registry [] q ≡ map shown old.sources → part wire q ≡ [] → first_question s.party ≡ Some asked →
-    Registered s wire passes (told r0 (event.Dial wire asked (dial_answer.Opened passes) ∷ [])) r1 old new c talk client key mid → (v : List Event) × Goes s wire q r0 r1 old new c v
-goes-opened s wire q r0 r1 old new c asked passes talk client key mid same none asks r =
-    let dial : Event = event.Dial wire asked (dial_answer.Opened passes) in
-    let add : Event = event.Add wire key true in
-    let pre : List Event = dial ∷ add ∷ [] in
-    let held : Held = record { key = key; wire = wire; read = Idle; write = Idle } in
-    let own : part wire pre ≡ dial ∷ [] = rw (eq-eqb wire wire refl) refl in
-    let mine : part wire (q ++ pre) ≡ dial ∷ [] = part-append wire q pre ∙ (ap (λ x. x ++ part wire pre) none ∙ own) in
-    let shows' : registry [] (q ++ pre) ≡ map shown mid.sources = registry-append [] q pre ∙ (ap (λ x. with_held x held) same ∙ r.shows) in
-    let free : held_at (registry [] q) key ≡ None = ap (λ x. held_at x key) same ∙ r.free in
-    let were : ArmedWhere key (q ++ pre) = λ x d at up. absurd (both_ways (waits (side_held d x)) (new-idle (registry [] q) held x d free refl refl (ap (λ y. held_at y key) (sym (registry-append [] q pre)) ∙ at)) up) in
-    first-by s wire key q r0 r1 old mid new c asked passes none free r.core
-    (stay-goes s wire key (q ++ pre) (told (told r0 (dial ∷ [])) (add ∷ [])) r1 mid new client talk [] false shows' were r.stands
-    (ap (goes_through s.party (option_map dials (first_question s.party))) mine ∙ through-opened s wire asked passes talk client asks r.begins r.unwritten) c r.stays)
+  first-asleep : (sl : Sleeper) (h h' : Held) (calls : List Event) (o : Option (List Event)) (b' : List ℕ) →
+      Stayed wire key (told (told r0 (dial ∷ [])) (add ∷ [])) r1 mid new client (slot.Asleep sl) h h' calls o → Pauses talk [] client sl.client calls b' →
+      (arm : List Event) → o ≡ Some arm →
+      Goes s wire past r0 r1 old new (slot.Asleep sl) (opened-visit (calls ++ arms_told o))
+  first-asleep sl h h' calls o b' x goes arm is =
+      let tail : List Event = arms_told o in
+      let v : List Event = calls ++ tail in
+      let here' : Here = registered_at wire past key asked (dial_answer.Opened passes) in
+      let end : Course = stands_at s.party talk b' sl.client (Some goes.dir) in
+      let own : AreCalls wire calls = x.own talk [] stands in
+      let arming : IsArming o = is-arming h h' calls o x.asked in
+      let through : goes_through (Some start) calls ≡ Some end = ap (λ c. goes_through (Some c) calls) (sym start-so) ∙ goes.through None s.party in
+      let conv : Converses wire (idle wire key) start calls h' (Some arm) end = record {
+        called = own;
+        asked = ap (λ y. asks (Some (begins y)) calls) (sym (idle-here h x.was)) ∙ (x.asked ∙ ap (λ y. Some (record { held = h'; over = y })) is);
+        through = through;
+      } in
+      let told-so : calls ++ arm ≡ v = ap (λ y. calls ++ arms_told y) (sym is) in
+      let sides : StandsAt here' (idle wire key) = stands-idle wire past key asked (dial_answer.Opened passes) (unvisited wire past fresh.unvisited) in
+      let leaves : LeavesAsleep here' h' v = subst (LeavesAsleep here' h') told-so (stays-leave-places wire here' (idle wire key) h' calls arm start end sides conv) in
+      let late : s.deadline ≡ None = built-late s built in
+      record {
+        gained = gains v x.gained;
+        visits = subst (λ y. Visit s wire past (opened-visit y)) told-so
+            (first-visits-sleep s wire key past asked (dial_answer.Opened passes) (unix_wire passes) h' calls arm end late (a.opened passes) (shows.free key free) conv);
+        shows = subst (λ y. Shows (past ▸ visit wire (opened-visit v)) y) (ap (λ y. registry y v) added ∙ x.shows)
+            (subst (λ y. Shows (past ▸ visit wire (opened-visit y)) (registry (map shown old.sources) (opened-visit y))) told-so
+            (first-asleep-shows wire key past (map shown old.sources) asked (dial_answer.Opened passes) h' calls arm start end shows fresh.unvisited free conv).shows);
+        others = λ w other. others-opened w v other (others-stay wire w calls tail own (x.apart w) other);
+        rests = x.rests;
+        ticker = x.ticker ∙ ap (λ y. y.ticker) core;
+        made = x.made ∙ ap (λ y. y.made) core;
+        begun = x.begun ∙ (ap (λ y. after_begun y.begun (length (arms_told o))) core ∙ ap (after_begun old.begun) (sym (armings-stay wire calls tail own ∙ arming.counted)));
+        waits = x.waits;
+        stands = λ pending. record {
+          open_ = x.stays.open_;
+          unread = moment-here wire past (opened-visit v) ∙ (calls-reading wire calls tail None own ∙ arming.unread None);
+          comes = comes-here v calls end _ (own-stay wire calls tail own (x.apart wire)) through
+              (ap (λ l. outcome_of l end) (none-reached s.deadline (moment wire (past ▸ visit wire (opened-visit v))) late) ∙ goes.waiting s.party);
+          talking = record {
+            talk = talk;
+            got = b';
+            dir = goes.dir;
+            stands = goes.stands;
+            through = course-here v calls end (own-stay wire calls tail own (x.apart wire)) through;
+          };
+          paused = record {
+            registered = key-here wire past (opened-visit v) ∙ (key-append (Some key) calls tail ∙ (arming.keyless _ ∙ (calls-key wire calls (Some key) own ∙ ap Some (sym x.stays.at))));
+            dir = leaves.dir;
+            last = paused-here wire past (opened-visit v) ∙ leaves.stop _;
+            waits_or_due = inl (waits-here leaves.dir wire past (opened-visit v) ∙ (side-waits _ _ (side_held leaves.dir h') (leaves.sides leaves.dir) ∙ leaves.waits));
+          };
+        };
+      }
 
-pub goes-first : (s : Session) (wire : ℕ) (q : List Event) (r0 r1 : Option (List Event)) (old new : Core) (slot : Slot) → registry [] q ≡ map shown old.sources → part wire q ≡ [] → Rests old →
-    FirstVisits s wire r0 r1 old new slot → (v : List Event) × Goes s wire q r0 r1 old new slot v
-goes-first s wire q r0 r1 old new c same none rests (visited.undialled asked e asks gained still is says) =
+  opened-found : (sl : Sleeper) (h h' : Held) (calls : List Event) (o : Option (List Event)) →
+      Stayed wire key (told (told r0 (dial ∷ [])) (add ∷ [])) r1 mid new client (slot.Asleep sl) h h' calls o → (b' : List ℕ) × Pauses talk [] client sl.client calls b' →
+      (arm : List Event) × (o ≡ Some arm) → (v : List Event) × Goes s wire past r0 r1 old new (slot.Asleep sl) v
+  opened-found sl h h' calls o x (b', goes) (arm, is) = (opened-visit (calls ++ arms_told o), first-asleep sl h h' calls o b' x goes arm is)
+
+  opened-goes : (c : Slot) → Stays wire key (told (told r0 (dial ∷ [])) (add ∷ [])) r1 mid new client c → (v : List Event) × Goes s wire past r0 r1 old new c v
+  opened-goes (slot.Ended e) (h, h', calls, o, x) = (opened-visit (calls ++ event.Delete wire key true ∷ []), first-ended e h h' calls o x)
+  opened-goes (slot.Asleep sl) (h, h', calls, o, x) = opened-found sl h h' calls o x (x.stays.goes talk [] stands) (some-arms o x.stays.over)
+  opened-goes slot.Refused (h, h', calls, o, x) = absurd x.stays
+
+-- ---- both
+
+pub goes-first : (s : Session) (wire : ℕ) (past : Pieces) (r0 r1 : Option (List Event)) (old new : Core) (c : Slot) → is_built s ≡ true → Shows past (map shown old.sources) → IsNew wire past → Rests old →
+    FirstVisits s wire r0 r1 old new c → (v : List Event) × Goes s wire past r0 r1 old new c v
+goes-first s wire past r0 r1 old new c built shows fresh rests (visited.undialled asked e first gained still is says) =
     let dial : Event = event.Dial wire asked dial_answer.Failed in
-    let went : Goes s wire q r0 r1 old old (slot.Ended (record { ending = ending.Connection; written = []; leftover = []; wire = wire; moment = None })) (dial ∷ []) = goes-undialled s wire q r0 r1 old asked same none rests asks gained in
-    let Q : Slot → Type 0 = λ y. Goes s wire q r0 r1 old old y (dial ∷ []) in
-    let R : Core → Type 0 = λ x. Goes s wire q r0 r1 old x c (dial ∷ []) in
+    let went : Goes s wire past r0 r1 old old (slot.Ended (record { ending = ending.Connection; written = []; leftover = []; wire = wire; moment = None })) (dial ∷ []) =
+    goes-undialled s wire past r0 r1 old asked built fresh rests first gained shows in
+    let Q : Slot → Type 0 = λ y. Goes s wire past r0 r1 old old y (dial ∷ []) in
+    let R : Core → Type 0 = λ x. Goes s wire past r0 r1 old x c (dial ∷ []) in
     (dial ∷ [], subst R (sym still) (subst Q (sym (is ∙ ap (λ y. slot.Ended y) says)) went))
-goes-first s wire q r0 r1 old new c same none rests (visited.dialled asked passes asks (talk, client, key, mid, r)) =
-    goes-opened s wire q r0 r1 old new c asked passes talk client key mid same none asks r
+goes-first s wire past r0 r1 old new c built shows fresh rests (visited.dialled asked passes first (talk, client, key, mid, r)) =
+    opened-goes s wire key past asked passes r0 r1 old mid new talk client built fresh shows first r.begins r.stands r.unwritten r.free r.core r.shows c r.stays
+
+again-found : (s : Session) (wire key : ℕ) (past : Pieces) (r0 r1 : Option (List Event)) (old new : Core) (c : Opening) (talk : List (List ℕ) → Said) (b : List ℕ) (paused-so : Option Dir) (sl : Sleeper) (h h' : Held)
+    (calls : List Event) (o : Option (List Event)) → s.deadline ≡ None → Shows past (map shown old.sources) → StandsIn talk b c → course s (part wire (pieces.told past)) ≡ Some (stands_at s.party talk b c paused-so) →
+    is_ended (outcome_in false (stands_at s.party talk b c paused-so).progress) ≡ false → Stayed wire key r0 r1 old new c (slot.Asleep sl) h h' calls o →
+    (b' : List ℕ) × Pauses talk b c sl.client calls b' → (arm : List Event) × (o ≡ Some arm) → (v : List Event) × Goes s wire past r0 r1 old new (slot.Asleep sl) v
+again-found s wire key past r0 r1 old new c talk b paused-so sl h h' calls o built shows stands came open_ x (b', goes) (arm, is) =
+    (calls ++ arms_told o, again-asleep s wire key past r0 r1 old new c talk b paused-so built shows stands came open_ sl h h' calls o b' x goes arm is)
+
+again-by : (s : Session) (wire key : ℕ) (past : Pieces) (r0 r1 : Option (List Event)) (old new : Core) (c : Opening) (talk : List (List ℕ) → Said) (b : List ℕ) (paused-so : Option Dir) (c' : Slot) → s.deadline ≡ None →
+    Shows past (map shown old.sources) → StandsIn talk b c → course s (part wire (pieces.told past)) ≡ Some (stands_at s.party talk b c paused-so) →
+    is_ended (outcome_in false (stands_at s.party talk b c paused-so).progress) ≡ false → Stays wire key r0 r1 old new c c' → (v : List Event) × Goes s wire past r0 r1 old new c' v
+again-by s wire key past r0 r1 old new c talk b paused-so (slot.Ended e) built shows stands came open_ (h, h', calls, o, x) =
+    (calls ++ event.Delete wire key true ∷ [], again-ended s wire key past r0 r1 old new c talk b paused-so built shows stands came open_ e h h' calls o x)
+again-by s wire key past r0 r1 old new c talk b paused-so (slot.Asleep sl) built shows stands came open_ (h, h', calls, o, x) =
+    again-found s wire key past r0 r1 old new c talk b paused-so sl h h' calls o built shows stands came open_ x (x.stays.goes talk b stands) (some-arms o x.stays.over)
+again-by s wire key past r0 r1 old new c talk b paused-so slot.Refused built shows stands came open_ (h, h', calls, o, x) = absurd x.stays
+
+pub goes-again : (s : Session) (wire : ℕ) (past : Pieces) (r0 r1 : Option (List Event)) (old new : Core) (sl : Sleeper) (pending : List ℕ) (c : Slot) → is_built s ≡ true → Shows past (map shown old.sources) →
+    Stands s wire pending past (slot.Asleep sl) → Stays wire sl.key r0 r1 old new sl.client c → (v : List Event) × Goes s wire past r0 r1 old new c v
+goes-again s wire past r0 r1 old new sl pending c built shows is stays =
+    let begin : Course = stands_at s.party is.talking.talk is.talking.got sl.client (Some is.talking.dir) in
+    let late : has_reached s.deadline (moment wire past) ≡ false = none-reached s.deadline (moment wire past) (built-late s built) in
+    let comes : outcome_of false begin ≡ Some (record { ending = ending.Waiting; written = sl.client.written; leftover = sl.client.rest }) =
+    ap (λ l. outcome_of l begin) (sym late) ∙ (sym (ap (option_and_then (outcome_of (has_reached s.deadline (moment wire past)))) is.talking.through) ∙ is.comes) in
+    again-by s wire sl.key past r0 r1 old new sl.client is.talking.talk is.talking.got (Some is.talking.dir) c (built-late s built) shows is.talking.stands is.talking.through
+    (ap is_ended comes) stays

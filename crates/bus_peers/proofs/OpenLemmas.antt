@@ -14,34 +14,26 @@ use Rattle.bus_peers.specs.declared.visiting.Slot.{Slot}
 use Rattle.bus_peers.specs.declared.visiting.Slot.TheVariants as slot
 use Rattle.bus_peers.specs.declared.open.OpenError.{OpenError}
 use Rattle.bus_peers.specs.declared.open.OpenError.TheVariants as open_err
-use Rattle.bus_session.specs.Parts.{is_of, part}
-use Rattle.bus_session.specs.Alone.{alone, outcome}
+use Rattle.bus_record.specs.Pieces as pieces
+use Rattle.bus_record.specs.Pieces.{Pieces}
+use Rattle.bus_record.specs.Headline.{IsEnding, Each}
 use Rattle.bus_peers.specs.Registry.{Held}
-use Rattle.bus_peers.specs.Settled.{is_wait, waits_in, removals_of, closing}
-use Rattle.bus_peers.specs.Shown.{shown}
-use Rattle.bus_peers.specs.Headline.{Each, Opened, RefusedWith, OpenCounted, Completes, is_delete}
+use Rattle.bus_peers.specs.Counts.{is_wait, is_delete, waits_in}
+use Rattle.bus_peers.specs.Closing.{closing}
+use Rattle.bus_peers.specs.Shown.{shown, tags}
+use Rattle.bus_peers.specs.Headline.{Opened, RefusedWith, OpenCounted, Completes}
 use Rattle.bus_peers.specs.Rounds.{is_kept, EndsIn, AllEnd}
 use Rattle.bus_peers.specs.Visited.{VisitCounted}
-use Rattle.bus_peers.specs.Slots.{Stands, AllStand, Going, Rested, RefusedAt, Halts}
+use Rattle.bus_peers.specs.Slots.{Owned, AllBuilt, Stands, AllStand, Going, Rested, RefusedAt, Halts}
 use Rattle.bus_peers.proofs.Talks.{waits_in-append}
-use Rattle.bus_peers.proofs.GoesLemmas.{part-quiet}
+use Rattle.bus_peers.proofs.Standing.{whole}
+use Rattle.bus_peers.proofs.Sleepers.{closing-so}
 
 -- ---- removals
-
-delete-of : (w : ℕ) (e : Event) → is_delete e ≡ true → is_of w e ≡ false
-delete-of w (event.Delete wire key ok) is = refl
-delete-of w e is = absurd (both_ways (is_delete e) refl is)
 
 delete-wait : (e : Event) → is_delete e ≡ true → is_wait e ≡ false
 delete-wait (event.Delete wire key ok) is = refl
 delete-wait e is = absurd (both_ways (is_delete e) refl is)
-
--- they are of no session
-pub deletes-part : (w : ℕ) (gone : List Event) → list_all is_delete gone ≡ true → part w gone ≡ []
-deletes-part w [] all = refl
-deletes-part w (e ∷ gone) all =
-    let h : (is_delete e ≡ true) × (list_all is_delete gone ≡ true) = and_parts (is_delete e) (list_all is_delete gone) all in
-    rw (delete-of w e h.0) (deletes-part w gone h.1)
 
 -- no round is among them
 pub deletes-waits : (gone : List Event) → list_all is_delete gone ≡ true → waits_in gone ≡ 0
@@ -50,68 +42,38 @@ deletes-waits (e ∷ gone) all =
     let h : (is_delete e ≡ true) × (list_all is_delete gone ≡ true) = and_parts (is_delete e) (list_all is_delete gone) all in
     rw (delete-wait e h.0) (deletes-waits gone h.1)
 
-one-delete : (b : Bool) (h : Held) (rest : List Event) → list_all is_delete rest ≡ true → list_all is_delete (if b then event.Delete h.wire h.key true ∷ [] else rest) ≡ true
-one-delete true h rest all = refl
-one-delete false h rest all = all
-
-removals-delete : (held : List Held) (wire : ℕ) → list_all is_delete (removals_of held wire) ≡ true
-removals-delete [] wire = refl
-removals-delete (h ∷ held) wire = one-delete (h.wire == wire) h (removals_of held wire) (removals-delete held wire)
-
-pub closing-deletes : (n from : ℕ) (held : List Held) → list_all is_delete (closing n from held) ≡ true
-closing-deletes zero from held = refl
-closing-deletes (suc n) from held = list_all-append is_delete (removals_of held from) (closing n (from + 1) held)
-    ∙ and_from (list_all is_delete (removals_of held from)) (list_all is_delete (closing n (from + 1) held)) (removals-delete held from) (closing-deletes n (from + 1) held)
-
 -- ---- the sessions' endings
 
--- the first of some sessions are all of them
-all-of : {X Y : Type 0} (xs : List X) (ys : List Y) → length ys ≡ length xs → take (length ys) xs ≡ xs
-all-of [] [] len = refl
-all-of (x ∷ xs) (y ∷ ys) len = ap (λ zs. x ∷ zs) (all-of xs ys (omega (arith, len)))
-all-of [] (y ∷ ys) len = absurd (omega (arith, len))
-all-of (x ∷ xs) [] len = absurd (omega (arith, len))
+one-kept : (s : Session) (w : ℕ) (past : Pieces) (c : Slot) → Stands s w [] past c → is_kept c ≡ true
+one-kept s w past (slot.Ended e) is = refl
+one-kept s w past (slot.Asleep c) is = refl
+one-kept s w past slot.Refused is = absurd is
 
-one-kept : (s : Session) (w : ℕ) (q : List Event) (c : Slot) → Stands s w [] q c → is_kept c ≡ true
-one-kept s w q (slot.Ended e) is = refl
-one-kept s w q (slot.Asleep c) is = refl
-one-kept s w q slot.Refused is = absurd is
-
-stand-kept : (n : ℕ) (sessions : List Session) (slots : List Slot) (q : List Event) → AllStand n [] sessions slots q → list_all is_kept slots ≡ true
-stand-kept n [] [] q all = refl
-stand-kept n (s ∷ sessions) (c ∷ slots) q all = and_from (is_kept c) (list_all is_kept slots) (one-kept s n q c all.0) (stand-kept (n + 1) sessions slots q all.1)
-stand-kept n [] (c ∷ slots) q all = absurd all
-stand-kept n (s ∷ sessions) [] q all = absurd all
+stand-kept : (n : ℕ) (sessions : List Session) (slots : List Slot) (past : Pieces) → AllStand n [] sessions slots past → list_all is_kept slots ≡ true
+stand-kept n [] [] past all = refl
+stand-kept n (s ∷ sessions) (c ∷ slots) past all = and_from (is_kept c) (list_all is_kept slots) (one-kept s n past c all.0) (stand-kept (n + 1) sessions slots past all.1)
+stand-kept n [] (c ∷ slots) past all = absurd all
+stand-kept n (s ∷ sessions) [] past all = absurd all
 
 -- each session has a slot
 pub rested-kept : (sessions : List Session) (rounds : ℕ) (old : Core) (r0 r1 : Option (List Event)) (core : Core) (slots : List Slot) →
-    (q : List Event) × (armed : ℕ) × Rested sessions rounds old r0 r1 core slots q armed → list_all is_kept slots ≡ true
-rested-kept sessions rounds old r0 r1 core slots (q, armed, x) = stand-kept 0 (take (length slots) sessions) slots q x.going.stands
+    (past : Pieces) × Rested sessions rounds old r0 r1 core slots past → list_all is_kept slots ≡ true
+rested-kept sessions rounds old r0 r1 core slots (past, x) = stand-kept 0 (take (length slots) sessions) slots past x.going.stands
 
 -- a session's ending is what its own part comes to
-record Comes (s : Session) (w : ℕ) (r : List Event) (e : Ended) : Type 0 where
-  wired : e.wire ≡ w
-  unread : e.moment ≡ None
-  comes : alone s (part w r) ≡ Some (outcome e)
+ending-in : (s : Session) (w : ℕ) (past : Pieces) (c : Slot) (e : Ended) → Stands s w [] past c → EndsIn w c e → IsEnding s w past e
+ending-in s w past (slot.Ended d) e is same = subst (IsEnding s w past) (sym same) is.comes
+ending-in s w past (slot.Asleep c) e is same =
+    subst (IsEnding s w past) (sym same) (record { on = refl; at = sym is.unread; comes = is.comes })
+ending-in s w past slot.Refused e is same = absurd is
 
-comes-to : (s : Session) (w : ℕ) (q gone : List Event) (c : Slot) (e : Ended) → part w gone ≡ [] → Stands s w [] q c → EndsIn w c e → Comes s w (q ++ gone) e
-comes-to s w q gone (slot.Ended d) e none is same =
-    let C : Ended → Type 0 = λ x. Comes s w (q ++ gone) x in
-    subst C (sym same) (record { wired = is.wired; unread = is.unread; comes = ap (alone s) (part-quiet w q gone none) ∙ is.comes })
-comes-to s w q gone (slot.Asleep c) e none is same =
-    let C : Ended → Type 0 = λ x. Comes s w (q ++ gone) x in
-    subst C (sym same) (record { wired = refl; unread = refl; comes = ap (alone s) (part-quiet w q gone none) ∙ is.comes })
-comes-to s w q gone slot.Refused e none is same = absurd is
-
-each-comes : (n : ℕ) (sessions : List Session) (slots : List Slot) (endeds : List Ended) (q gone : List Event) → ((w : ℕ) → part w gone ≡ []) → AllStand n [] sessions slots q → AllEnd n slots endeds → Each n sessions endeds (q ++ gone)
-each-comes n [] [] [] q gone none all ends = tt
-each-comes n (s ∷ sessions) (c ∷ slots) (e ∷ endeds) q gone none all ends =
-    let x : Comes s n (q ++ gone) e = comes-to s n q gone c e (none n) all.0 ends.0 in
-    (x.wired, x.unread, x.comes, each-comes (n + 1) sessions slots endeds q gone none all.1 ends.1)
-each-comes n [] (c ∷ slots) endeds q gone none all ends = absurd all
-each-comes n (s ∷ sessions) [] endeds q gone none all ends = absurd all
-each-comes n [] [] (e ∷ endeds) q gone none all ends = absurd ends
-each-comes n (s ∷ sessions) (c ∷ slots) [] q gone none all ends = absurd ends
+each-ending : (n : ℕ) (sessions : List Session) (slots : List Slot) (endeds : List Ended) (past : Pieces) → AllStand n [] sessions slots past → AllEnd n slots endeds → Each n sessions endeds past
+each-ending n [] [] [] past all ends = tt
+each-ending n (s ∷ sessions) (c ∷ slots) (e ∷ endeds) past all ends = (ending-in s n past c e all.0 ends.0, each-ending (n + 1) sessions slots endeds past all.1 ends.1)
+each-ending n [] (c ∷ slots) endeds past all ends = absurd all
+each-ending n (s ∷ sessions) [] endeds past all ends = absurd all
+each-ending n [] [] (e ∷ endeds) past all ends = absurd ends
+each-ending n (s ∷ sessions) (c ∷ slots) [] past all ends = absurd ends
 
 -- ---- what a call answers
 
@@ -142,6 +104,11 @@ ticker-gone old now new a gone is same all = omega (arith, waits_in-append a gon
 abbrev pub emptied : ReactorState → ReactorState
 emptied r = record r { core = record r.core { sources = [] } }
 
+-- each round that the record shows was begun
+ticks : {sessions : List Session} {rounds : ℕ} {pending : List ℕ} {begin : Core} {r0 r1 : Option (List Event)} {core : Core} {slots : List Slot} {past : Pieces} →
+    Going sessions rounds pending begin r0 r1 core slots past → core.ticker ≡ begin.ticker + waits_in (pieces.told past)
+ticks {begin = begin} g = g.ticker ∙ ap (λ n. begin.ticker + n) (sym g.counted)
+
 -- the first visits or the rounds were refused
 pub answers-refused : {T : Type 0} (items : T → List Ended) (result : Result T OpenError) (e : OpenError) (sessions : List Session) (rounds : ℕ) (r0 r1 r2 : Option (List Event)) (old : Core) (mid new : ReactorState) (slots : List Slot) →
     IsErrAnd result (λ x. x ≡ e) → Halts {T = Unit {0}} (Err e) sessions rounds old r0 r1 mid.core slots → RefusedAt e r0 r1 old mid.core → new ≡ emptied mid →
@@ -151,15 +118,14 @@ answers-refused items result open_err.OutOfMemory sessions rounds r0 r1 r2 old m
 answers-refused items result open_err.Poller sessions rounds r0 r1 r2 old mid new slots is halts (more, x) same (gone, gained, all) =
     answers-err items result open_err.Poller sessions rounds r0 r2 old new.core (more ++ gone) is (after-gone r0 r1 r2 more gone x.gained gained)
     (ticker-gone old.ticker mid.core.ticker new.core.ticker more gone x.ticker (ap (λ y. y.core.ticker) same) all)
-answers-refused items result (open_err.Exhausted c value) sessions rounds r0 r1 r2 old mid new slots is (q, armed, x) (of, at, last, told') same (gone, gained, all) =
-    let g : Going sessions rounds [] old r0 r1 mid.core slots q armed = x.going in
-    answers-err items result (open_err.Exhausted c value) sessions rounds r0 r2 old new.core (q ++ gone) is (after-gone r0 r1 r2 q gone g.gained gained) (
+answers-refused items result (open_err.Exhausted c value) sessions rounds r0 r1 r2 old mid new slots is (past, x) (of, at, last, told') same (gone, gained, all) =
+    let g : Going sessions rounds [] old r0 r1 mid.core slots past = x.going in
+    answers-err items result (open_err.Exhausted c value) sessions rounds r0 r2 old new.core (pieces.told past ++ gone) is (after-gone r0 r1 r2 (pieces.told past) gone g.gained gained) (
       of,
       at,
-      ticker-gone old.ticker mid.core.ticker new.core.ticker q gone g.ticker (ap (λ y. y.core.ticker) same) all,
+      ticker-gone old.ticker mid.core.ticker new.core.ticker (pieces.told past) gone (ticks g) (ap (λ y. y.core.ticker) same) all,
       record {
-        open_ = q;
-        armed = armed;
+        pieces = past;
         removals = gone;
         run = g.run;
         rest = x.rest;
@@ -173,51 +139,55 @@ answers-refused items result (open_err.Exhausted c value) sessions rounds r0 r1 
 
 -- a removal was refused
 pub answers-unremoved : {T : Type 0} (items : T → List Ended) (result : Result T OpenError) (e : OpenError) (sessions : List Session) (rounds : ℕ) (r0 r1 r2 : Option (List Event)) (old : Core) (mid new : ReactorState) (slots : List Slot) (n0 n1 : ℕ) →
-    IsErrAnd result (λ x. x ≡ e) → (q : List Event) × (armed : ℕ) × Rested sessions rounds old r0 r1 mid.core slots q armed → VisitCounted {T = Unit {0}} (Err e) n0 n1 → new ≡ emptied mid →
+    IsErrAnd result (λ x. x ≡ e) → (past : Pieces) × Rested sessions rounds old r0 r1 mid.core slots past → VisitCounted {T = Unit {0}} (Err e) n0 n1 → new ≡ emptied mid →
     (gone : List Event) × (r2 ≡ told r1 gone) × (list_all is_delete gone ≡ true) → Answers items result sessions rounds r0 r2 old new.core
-answers-unremoved items result open_err.OutOfMemory sessions rounds r0 r1 r2 old mid new slots n0 n1 is (q, armed, x) counted same (gone, gained, all) =
-    answers-err items result open_err.OutOfMemory sessions rounds r0 r2 old new.core (q ++ gone) is (after-gone r0 r1 r2 q gone x.going.gained gained) tt
-answers-unremoved items result open_err.Poller sessions rounds r0 r1 r2 old mid new slots n0 n1 is (q, armed, x) counted same (gone, gained, all) =
-    answers-err items result open_err.Poller sessions rounds r0 r2 old new.core (q ++ gone) is (after-gone r0 r1 r2 q gone x.going.gained gained)
-    (ticker-gone old.ticker mid.core.ticker new.core.ticker q gone x.going.ticker (ap (λ y. y.core.ticker) same) all)
+answers-unremoved items result open_err.OutOfMemory sessions rounds r0 r1 r2 old mid new slots n0 n1 is (past, x) counted same (gone, gained, all) =
+    answers-err items result open_err.OutOfMemory sessions rounds r0 r2 old new.core (pieces.told past ++ gone) is (after-gone r0 r1 r2 (pieces.told past) gone x.going.gained gained) tt
+answers-unremoved items result open_err.Poller sessions rounds r0 r1 r2 old mid new slots n0 n1 is (past, x) counted same (gone, gained, all) =
+    answers-err items result open_err.Poller sessions rounds r0 r2 old new.core (pieces.told past ++ gone) is (after-gone r0 r1 r2 (pieces.told past) gone x.going.gained gained)
+    (ticker-gone old.ticker mid.core.ticker new.core.ticker (pieces.told past) gone (ticks x.going) (ap (λ y. y.core.ticker) same) all)
 answers-unremoved items result (open_err.Exhausted c value) sessions rounds r0 r1 r2 old mid new slots n0 n1 is rested counted same removals = absurd counted
 
-opened-all : (sessions : List Session) (rounds : ℕ) (r0 r1 : Option (List Event)) (old : Core) (mid new : ReactorState) (slots : List Slot) (endeds : List Ended) (q : List Event) (armed : ℕ) → length slots ≡ length sessions →
-    Rested sessions rounds old r0 r1 mid.core slots q armed → new ≡ emptied mid → AllEnd 0 slots endeds →
-    Opened sessions rounds old new.core endeds (q ++ closing (length slots) 0 (map shown mid.core.sources))
-opened-all sessions rounds r0 r1 old mid new slots endeds q armed len x same ends =
-    let g : Going sessions rounds [] old r0 r1 mid.core slots q armed = x.going in
-    let gone : List Event = closing (length slots) 0 (map shown mid.core.sources) in
-    let deletes : list_all is_delete gone ≡ true = closing-deletes (length slots) 0 (map shown mid.core.sources) in
-    let S : List Session → Type 0 = λ y. AllStand 0 [] y slots q in
+opened-all : (sessions : List Session) (rounds : ℕ) (r0 r1 : Option (List Event)) (old : Core) (mid new : ReactorState) (slots : List Slot) (endeds : List Ended) (past : Pieces) → AllBuilt sessions →
+    length slots ≡ length sessions → Owned slots (tags mid.core.sources) → Rested sessions rounds old r0 r1 mid.core slots past → new ≡ emptied mid → AllEnd 0 slots endeds →
+    Opened sessions rounds old new.core endeds (pieces.told past ++ closing (length slots) 0 (map shown mid.core.sources))
+opened-all sessions rounds r0 r1 old mid new slots endeds past built len owned x same ends =
+    let g : Going sessions rounds [] old r0 r1 mid.core slots past = x.going in
+    let S : List Session → Type 0 = λ y. AllStand 0 [] y slots past in
+    let stands : AllStand 0 [] sessions slots past = subst S (whole sessions slots len) g.stands in
     record {
-      armed = armed;
+      pieces = past;
       headline = record {
-        each = each-comes 0 sessions slots endeds q gone (λ w. deletes-part w gone deletes) (subst S (all-of sessions slots len) g.stands) ends;
+        each = each-ending 0 sessions slots endeds past stands ends;
         settled = record {
-          open_ = q;
           run = g.run;
           rest = x.rest;
           spent = x.spent;
-          whole = ap (λ n. q ++ closing n 0 (map shown mid.core.sources)) len ∙ ap (λ h. q ++ closing (length sessions) 0 h) (sym g.shows);
+          whole = ap (λ n. pieces.told past ++ closing n 0 (map shown mid.core.sources)) len
+              ∙ ap (λ gone. pieces.told past ++ gone) (closing-so 0 sessions slots past mid.core.sources built g.shows stands owned.each owned.single);
         };
       };
       interests = ap (λ y. y.core.begun) same ∙ g.begun;
-      rounds_begun = ticker-gone old.ticker mid.core.ticker new.core.ticker q gone g.ticker (ap (λ y. y.core.ticker) same) deletes;
+      rounds_begun = ap (λ y. y.core.ticker) same ∙ g.ticker;
       timers_made = ap (λ y. y.core.made) same ∙ g.made;
     }
 
 -- all was done, unless there was no room for the endings
-pub answers-opened : {T : Type 0} (items : T → List Ended) (result : Result T OpenError) (sessions : List Session) (rounds : ℕ) (r0 r1 r2 : Option (List Event)) (old : Core) (mid new : ReactorState) (slots : List Slot) → length slots ≡ length sessions →
-    (q : List Event) × (armed : ℕ) × Rested sessions rounds old r0 r1 mid.core slots q armed → new ≡ emptied mid → r2 ≡ told r1 (closing (length slots) 0 (map shown mid.core.sources)) →
+pub answers-opened : {T : Type 0} (items : T → List Ended) (result : Result T OpenError) (sessions : List Session) (rounds : ℕ) (r0 r1 r2 : Option (List Event)) (old : Core) (mid new : ReactorState) (slots : List Slot) → AllBuilt sessions →
+    length slots ≡ length sessions → Owned slots (tags mid.core.sources) →
+    (past : Pieces) × Rested sessions rounds old r0 r1 mid.core slots past → new ≡ emptied mid → r2 ≡ told r1 (closing (length slots) 0 (map shown mid.core.sources)) →
     IfOk result (λ v. AllEnd 0 slots (items v)) → OnErr result (result ≡ Err open_err.OutOfMemory) → Answers items result sessions rounds r0 r2 old new.core
-answers-opened items (Ok v) sessions rounds r0 r1 r2 old mid new slots len (q, armed, x) same gained ends err =
+answers-opened items (Ok v) sessions rounds r0 r1 r2 old mid new slots built len owned (past, x) same gained ends err =
+    let gone : List Event = closing (length slots) 0 (map shown mid.core.sources) in (
+      pieces.told past ++ gone,
+      after-gone r0 r1 r2 (pieces.told past) gone x.going.gained gained,
+      opened-all sessions rounds r0 r1 old mid new slots (items v) past built len owned x same ends,
+      tt,
+    )
+answers-opened {T} items (Err e) sessions rounds r0 r1 r2 old mid new slots built len owned (past, x) same gained ends err =
     let gone : List Event = closing (length slots) 0 (map shown mid.core.sources) in
-    (q ++ gone, after-gone r0 r1 r2 q gone x.going.gained gained, opened-all sessions rounds r0 r1 old mid new slots (items v) q armed len x same ends, tt)
-answers-opened {T} items (Err e) sessions rounds r0 r1 r2 old mid new slots len (q, armed, x) same gained ends err =
-    let gone : List Event = closing (length slots) 0 (map shown mid.core.sources) in
-    let R : Result T OpenError → Type 0 = λ y. RefusedWith sessions rounds old new.core y (q ++ gone) in
-    (q ++ gone, after-gone r0 r1 r2 q gone x.going.gained gained, tt, subst R (sym err) tt)
+    let R : Result T OpenError → Type 0 = λ y. RefusedWith sessions rounds old new.core y (pieces.told past ++ gone) in
+    (pieces.told past ++ gone, after-gone r0 r1 r2 (pieces.told past) gone x.going.gained gained, tt, subst R (sym err) tt)
 
 -- ---- what is not refused
 

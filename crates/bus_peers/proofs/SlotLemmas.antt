@@ -304,9 +304,9 @@ wire-below w n wires rest slots ts next have owned len =
 
 pub goes-next : (w : ℕ) (all wires rest : List ℕ) (r0 r1 r2 : Option (List Event)) (old mid new : Core) (slots slots' slots'' : List Slot) → wires ≡ w ∷ rest → GoesFrom all wires r0 r1 old mid slots slots' →
     ((pending : List ℕ) → GoesFrom (w ∷ pending) pending r1 r2 mid new slots' slots'') → GoesFrom all rest r0 r2 old new slots slots''
-goes-next w all wires rest r0 r1 r2 old mid new slots slots' slots'' next goes visits = λ sessions rounds n begin before went.
+goes-next w all wires rest r0 r1 r2 old mid new slots slots' slots'' next goes visits = λ sessions rounds n begin before built went.
     let W : List ℕ → Type 0 = λ x. Went sessions rounds x n begin before r1 mid slots' in
-    visits rest sessions rounds n begin before (subst W next (goes sessions rounds n begin before went))
+    visits rest sessions rounds n begin before built (subst W next (goes sessions rounds n begin before built went))
 
 pub goes-all : (all wires : List ℕ) (r0 r1 : Option (List Event)) (old new : Core) (slots slots' : List Slot) → wires ≡ [] → GoesFrom all wires r0 r1 old new slots slots' → GoesFrom all [] r0 r1 old new slots slots'
 goes-all all wires r0 r1 old new slots slots' none goes = let G : List ℕ → Type 0 = λ x. GoesFrom all x r0 r1 old new slots slots' in subst G none goes

@@ -17,7 +17,7 @@ use Rattle.bus_peers.specs.declared.visiting.Turn.{Turn}
 use Rattle.bus_peers.specs.declared.visiting.Turn.TheVariants as turn
 use Rattle.bus_peers.specs.declared.visiting.Slot.TheVariants as slot
 use Rattle.bus_peers.specs.Registry.{Held, held_at, registry, without_held}
-use Rattle.bus_peers.specs.Settled.{waits_in}
+use Rattle.bus_peers.specs.Counts.{waits_in}
 use Rattle.bus_peers.specs.Shown.{Rests, shown, tags, tag_at, without_tag, AllSane, Single}
 use Rattle.bus_peers.specs.Visited.{KeepsCall, Holds, Turns, Stays, arms_told}
 use Rattle.bus_peers.proofs.Talks.{registry-append, waits_in-append}
@@ -116,7 +116,7 @@ stays-asleep wire key r0 r1 old new c c' (h, h', es, o, a) = (
     made = a.made;
     begun = a.begun;
     tags = a.tags;
-    stays = record { over = a.turned.0; at = refl; open_ = a.turned.1; goes = a.turned.2; stops = a.turned.3; held = a.now };
+    stays = record { over = a.turned.0; at = refl; open_ = a.turned.1; goes = a.turned.2; held = a.now };
   },
 )
 

@@ -1,7 +1,7 @@
 -- How the events of one poll go through for the session alone, from any history at which its conversation stands.
-use Rattle.std.proofs.Common.{◌≡◌, ◌≢◌, ℕ, ◌+◌, Bool, true, false, eq-eqb, List, [], ◌∷◌, ◌++◌, Option, Some, length, refl, sym, ◌∙◌, ap, subst, inl, inr, arith, nat_le, ◌&&◌}
+use Rattle.std.proofs.Common.{◌≡◌, ◌≢◌, ℕ, ◌+◌, Bool, true, false, eq-eqb, List, [], ◌∷◌, ◌++◌, Option, Some, None, length, refl, sym, ◌∙◌, ap, subst, inl, inr, arith, nat_le, ◌&&◌}
 use Rattle.std.specs.List.{flat_map}
-use Rattle.std.specs.Option.{option_and_then}
+use Rattle.std.specs.Option.{option_map, option_and_then}
 use Rattle.std.specs.Str.{bytes_eq}
 use Rattle.std.proofs.lemmas.List.{append_assoc, append-nil, length-append}
 use Rattle.std.proofs.lemmas.List.Elements.{filter-append}
@@ -27,10 +27,11 @@ use Rattle.bus_session.specs.declared.ended.Ending.{Ending}
 use Rattle.bus_session.specs.declared.ended.Ending.TheVariants as ending
 use Rattle.bus_session.specs.declared.session.Party.{Party}
 use Rattle.bus_session.specs.Parts.{is_of, part}
-use Rattle.bus_session.specs.Alone.{Progress, converses, after, after_recv, after_send, concluded, goes_through, outcome_of}
+use Rattle.bus_session.specs.Alone.{Progress, Course, converses, after, after_recv, after_send, concluded, goes_through, outcome_of}
 use Rattle.bus_peers.specs.Registry.{Held, held_after, registry, noted}
-use Rattle.bus_peers.specs.Asking.{Asking, asking_next, asks, begins, after_stop, stop_of, last_stop}
-use Rattle.bus_peers.specs.Settled.{IsCall, AreCalls, waits_in, armings_in}
+use Rattle.bus_peers.specs.Asking.{Asking, asking_next, asks, begins, after_stop}
+use Rattle.bus_peers.specs.Calls.{IsCall, AreCalls}
+use Rattle.bus_peers.specs.Counts.{waits_in}
 use Rattle.bus_peers.specs.Visited.{stands_at, EndsAs, GoesOn, ending_of}
 
 pub bytes_eq-refl : (bytes : List ℕ) → bytes_eq bytes bytes ≡ true
@@ -50,19 +51,12 @@ pub asks-append : (t : Option Asking) (a b : List Event) → asks t (a ++ b) ≡
 asks-append t [] b = refl
 asks-append t (e ∷ a) b = asks-append (asking_next t e) a b
 
-pub last_stop-append : (dir : Option Dir) (a b : List Event) → last_stop dir (a ++ b) ≡ last_stop (last_stop dir a) b
-last_stop-append dir [] b = refl
-last_stop-append dir (e ∷ a) b = last_stop-append (stop_of e) a b
-
-pub goes-append : (p : Party) (t : Option Progress) (a b : List Event) → goes_through p t (a ++ b) ≡ goes_through p (goes_through p t a) b
-goes-append p t [] b = refl
-goes-append p t (e ∷ a) b = goes-append p (option_and_then (λ reached. after p reached e) t) a b
+pub goes-append : (t : Option Course) (a b : List Event) → goes_through t (a ++ b) ≡ goes_through (goes_through t a) b
+goes-append t [] b = refl
+goes-append t (e ∷ a) b = goes-append (option_and_then (λ reached. after reached e) t) a b
 
 pub waits_in-append : (a b : List Event) → waits_in (a ++ b) ≡ waits_in a + waits_in b
 waits_in-append a b = sum_by-append _ a b
-
-pub armings_in-append : (a b : List Event) → armings_in (a ++ b) ≡ armings_in a + armings_in b
-armings_in-append a b = sum_by-append _ a b
 
 pub AreCalls-append : (wire : ℕ) (a b : List Event) → AreCalls wire a → AreCalls wire b → AreCalls wire (a ++ b)
 AreCalls-append wire [] b h k = k
@@ -94,12 +88,6 @@ calls-no-waits wire (event.Recv on size answer ∷ calls) (h, hs) = calls-no-wai
 calls-no-waits wire (event.Send on offered answer ∷ calls) (h, hs) = calls-no-waits wire calls hs
 calls-no-waits wire (e ∷ calls) (h, hs) = absurd h
 
-pub calls-no-armings : (wire : ℕ) (calls : List Event) → AreCalls wire calls → armings_in calls ≡ 0
-calls-no-armings wire [] h = refl
-calls-no-armings wire (event.Recv on size answer ∷ calls) (h, hs) = calls-no-armings wire calls hs
-calls-no-armings wire (event.Send on offered answer ∷ calls) (h, hs) = calls-no-armings wire calls hs
-calls-no-armings wire (e ∷ calls) (h, hs) = absurd h
-
 -- ---- the events that moved bytes
 
 asked-call : (a : Ask) (wire : ℕ) (e : Event) → IsAsked a wire e → IsCall wire e
@@ -130,16 +118,16 @@ moved-waits (event.Send on offered (send_answer.Took n) ∷ events) (m, ms) = mo
 moved-waits (e ∷ events) (m, ms) = absurd m
 
 -- a conversation at which these bytes came and those were taken
-abbrev at : (List (List ℕ) → Said) → List ℕ → List ℕ → Bool → Progress
-at talk b w paused = converses talk (record { got = b; written = w; paused = paused })
+abbrev at : Party → (List (List ℕ) → Said) → List ℕ → List ℕ → Option Dir → Course
+at p talk b w paused = record { party = p; progress = converses talk (record { got = b; written = w; paused = paused }) }
 
 -- an event that moves bytes ends a pause
-abbrev paused-after : Bool → List Event → Bool
+abbrev paused-after : Option Dir → List Event → Option Dir
 paused-after paused [] = paused
-paused-after paused (e ∷ events) = paused-after false events
+paused-after paused (e ∷ events) = paused-after None events
 
-moved-one : (p : Party) (talk : List (List ℕ) → Said) (b w : List ℕ) (paused : Bool) (wire : ℕ) (e : Event) → Moved e → IsAsked (ask talk b (length w)) wire e →
-    after p (at talk b w paused) e ≡ Some (at talk (b ++ bytes_got e) (w ++ bytes_taken e) false)
+moved-one : (p : Party) (talk : List (List ℕ) → Said) (b w : List ℕ) (paused : Option Dir) (wire : ℕ) (e : Event) → Moved e → IsAsked (ask talk b (length w)) wire e →
+    after (at p talk b w paused) e ≡ Some (at p talk (b ++ bytes_got e) (w ++ bytes_taken e) None)
 moved-one p talk b w paused wire (event.Recv on size (recv_answer.Got bytes)) (low, high) (asked, same, sized) =
     let fits : (nat_le 1 (length bytes) && nat_le (length bytes) 1024) ≡ true = grind (arith, nat_tests) in
     rw (asked, sized, fits, append-nil w) refl
@@ -148,14 +136,14 @@ moved-one p talk b w paused wire (event.Send on offered (send_answer.Took n)) (l
     rw (asked, bytes_eq-refl offered, fits, append-nil b) refl
 moved-one p talk b w paused wire e m a = absurd m
 
-moved-on : (p : Party) (talk : List (List ℕ) → Said) (b w : List ℕ) (paused : Bool) (wire : ℕ) (events : List Event) → AllMoved events → AreAsked talk wire b (length w) events →
-    goes_through p (Some (at talk b w paused)) events ≡ Some (at talk (b ++ flat_map bytes_got events) (w ++ flat_map bytes_taken events) (paused-after paused events))
+moved-on : (p : Party) (talk : List (List ℕ) → Said) (b w : List ℕ) (paused : Option Dir) (wire : ℕ) (events : List Event) → AllMoved events → AreAsked talk wire b (length w) events →
+    goes_through (Some (at p talk b w paused)) events ≡ Some (at p talk (b ++ flat_map bytes_got events) (w ++ flat_map bytes_taken events) (paused-after paused events))
 moved-on p talk b w paused wire [] m a = rw (append-nil b, append-nil w) refl
 moved-on p talk b w paused wire (e ∷ events) (m, ms) (a, more) =
     let longer : length w + length (bytes_taken e) ≡ length (w ++ bytes_taken e) = sym (length-append w (bytes_taken e)) in
     let onward : AreAsked talk wire (b ++ bytes_got e) (length (w ++ bytes_taken e)) events = subst (λ n. AreAsked talk wire (b ++ bytes_got e) n events) longer more in
-    ap (λ reached. goes_through p reached events) (moved-one p talk b w paused wire e m a)
-    ∙ (moved-on p talk (b ++ bytes_got e) (w ++ bytes_taken e) false wire events ms onward
+    ap (λ reached. goes_through reached events) (moved-one p talk b w paused wire e m a)
+    ∙ (moved-on p talk (b ++ bytes_got e) (w ++ bytes_taken e) None wire events ms onward
     ∙ rw (append_assoc b (bytes_got e) (flat_map bytes_got events), append_assoc w (bytes_taken e) (flat_map bytes_taken events)) refl)
 
 -- ---- the last event
@@ -245,27 +233,31 @@ final-shows asked wire verdict.LineTooLong held final (f, k) = rw f refl
 final-shows asked wire verdict.TooManyCommands held final (f, k) = rw f refl
 
 -- a conversation at which these bytes came and those were taken ends so
-abbrev EndsAt : (List (List ℕ) → Said) → List ℕ → List ℕ → Bool → Ending → Option Progress → Type 0
-EndsAt talk b w paused e reached = option_and_then outcome_of reached ≡ Some (concluded talk (record { got = b; written = w; paused = paused }) e)
+abbrev EndsAt : (List (List ℕ) → Said) → List ℕ → List ℕ → Option Dir → Bool → Ending → Option Course → Type 0
+EndsAt talk b w paused late e reached = option_and_then (outcome_of late) reached ≡ Some (concluded talk (record { got = b; written = w; paused = paused }) e)
 
-got-last : (p : Party) (talk : List (List ℕ) → Said) (b w : List ℕ) (paused : Bool) (wire : ℕ) (answer : RecvAnswer) → AreAsked talk wire b (length w) (event.Recv wire 1024 answer ∷ []) →
-    goes_through p (Some (at talk b w paused)) (event.Recv wire 1024 answer ∷ []) ≡ after_recv talk (record { got = b; written = w; paused = paused }) answer
+-- the session at this progress
+abbrev led : Party → Progress → Course
+led p progress = record { party = p; progress = progress }
+
+got-last : (p : Party) (talk : List (List ℕ) → Said) (b w : List ℕ) (paused : Option Dir) (wire : ℕ) (answer : RecvAnswer) → AreAsked talk wire b (length w) (event.Recv wire 1024 answer ∷ []) →
+    goes_through (Some (at p talk b w paused)) (event.Recv wire 1024 answer ∷ []) ≡ option_map (led p) (after_recv talk (record { got = b; written = w; paused = paused }) answer)
 got-last p talk b w paused wire answer ((asked, same, sized), more) = rw (asked) refl
 
-sent-last : (p : Party) (talk : List (List ℕ) → Said) (b w : List ℕ) (paused : Bool) (wire : ℕ) (offered : List ℕ) (answer : SendAnswer) → AreAsked talk wire b (length w) (event.Send wire offered answer ∷ []) →
-    goes_through p (Some (at talk b w paused)) (event.Send wire offered answer ∷ []) ≡ after_send talk (record { got = b; written = w; paused = paused }) offered answer
+sent-last : (p : Party) (talk : List (List ℕ) → Said) (b w : List ℕ) (paused : Option Dir) (wire : ℕ) (offered : List ℕ) (answer : SendAnswer) → AreAsked talk wire b (length w) (event.Send wire offered answer ∷ []) →
+    goes_through (Some (at p talk b w paused)) (event.Send wire offered answer ∷ []) ≡ option_map (led p) (after_send talk (record { got = b; written = w; paused = paused }) offered answer)
 sent-last p talk b w paused wire offered answer ((asked, same), more) = rw (asked, bytes_eq-refl offered) refl
 
-final-ends : (p : Party) (talk : List (List ℕ) → Said) (b w : List ℕ) (paused : Bool) (wire : ℕ) (v : Verdict) (final : List Event) →
+final-ends : (p : Party) (late : Bool) (talk : List (List ℕ) → Said) (b w : List ℕ) (paused : Option Dir) (wire : ℕ) (v : Verdict) (final : List Event) →
     AreAsked talk wire b (length w) final → Concludes (λ a. ask talk b (length w) ≡ a) wire (step.Done v) final →
-    EndsAt talk b w paused (ending_of v) (goes_through p (Some (at talk b w paused)) final)
-final-ends p talk b w paused wire (verdict.Authenticated settled) final a (f, asked) = rw (f, asked) refl
-final-ends p talk b w paused wire verdict.Handshake final a (inl (f, asked)) = rw (f, asked) refl
-final-ends p talk b w paused wire verdict.Handshake final a (inr f) = let a' = rw f at a in rw f (ap (option_and_then outcome_of) (got-last p talk b w paused wire _ a'))
-final-ends p talk b w paused wire verdict.Io final a (inl f) = let a' = rw f at a in rw f (ap (option_and_then outcome_of) (got-last p talk b w paused wire _ a'))
-final-ends p talk b w paused wire verdict.Io final a (inr (offered, f)) = let a' = rw f at a in rw f (ap (option_and_then outcome_of) (sent-last p talk b w paused wire offered _ a'))
-final-ends p talk b w paused wire verdict.LineTooLong final a (f, asked) = rw (f, asked) refl
-final-ends p talk b w paused wire verdict.TooManyCommands final a (f, asked) = rw (f, asked) refl
+    EndsAt talk b w paused late (ending_of v) (goes_through (Some (at p talk b w paused)) final)
+final-ends p late talk b w paused wire (verdict.Authenticated settled) final a (f, asked) = rw (f, asked) refl
+final-ends p late talk b w paused wire verdict.Handshake final a (inl (f, asked)) = rw (f, asked) refl
+final-ends p late talk b w paused wire verdict.Handshake final a (inr f) = let a' = rw f at a in rw f (ap (option_and_then (outcome_of late)) (got-last p talk b w paused wire _ a'))
+final-ends p late talk b w paused wire verdict.Io final a (inl f) = let a' = rw f at a in rw f (ap (option_and_then (outcome_of late)) (got-last p talk b w paused wire _ a'))
+final-ends p late talk b w paused wire verdict.Io final a (inr (offered, f)) = let a' = rw f at a in rw f (ap (option_and_then (outcome_of late)) (sent-last p talk b w paused wire offered _ a'))
+final-ends p late talk b w paused wire verdict.LineTooLong final a (f, asked) = rw (f, asked) refl
+final-ends p late talk b w paused wire verdict.TooManyCommands final a (f, asked) = rw (f, asked) refl
 
 -- the answer of a poll that stopped at this direction
 abbrev pub stop_step : Dir → Step
@@ -281,20 +273,16 @@ stop-shows : (asked : Ask → Type 0) (wire : ℕ) (dir : Dir) (held : List Held
 stop-shows asked wire Read held final f = rw f refl
 stop-shows asked wire Write held final (offered, f) = rw f refl
 
-stop-last : (asked : Ask → Type 0) (wire : ℕ) (dir : Dir) (earlier : Option Dir) (final : List Event) → Concludes asked wire (stop_step dir) final → last_stop earlier final ≡ Some dir
-stop-last asked wire Read earlier final f = rw f refl
-stop-last asked wire Write earlier final (offered, f) = rw f refl
-
-stop-through : (p : Party) (talk : List (List ℕ) → Said) (b w : List ℕ) (paused : Bool) (wire : ℕ) (dir : Dir) (final : List Event) →
-    AreAsked talk wire b (length w) final → Concludes (λ a. ask talk b (length w) ≡ a) wire (stop_step dir) final → goes_through p (Some (at talk b w paused)) final ≡ Some (at talk b w true)
+stop-through : (p : Party) (talk : List (List ℕ) → Said) (b w : List ℕ) (paused : Option Dir) (wire : ℕ) (dir : Dir) (final : List Event) →
+    AreAsked talk wire b (length w) final → Concludes (λ a. ask talk b (length w) ≡ a) wire (stop_step dir) final → goes_through (Some (at p talk b w paused)) final ≡ Some (at p talk b w (Some dir))
 stop-through p talk b w paused wire Read final a f = let a' = rw f at a in rw f (got-last p talk b w paused wire _ a')
 stop-through p talk b w paused wire Write final a (offered, f) = let a' = rw f at a in rw f (sent-last p talk b w paused wire offered _ a')
 
-stop-waiting : (talk : List (List ℕ) → Said) (b w : List ℕ) (wire : ℕ) (dir : Dir) (final : List Event) →
+stop-waiting : (p : Party) (talk : List (List ℕ) → Said) (b w : List ℕ) (wire : ℕ) (dir : Dir) (final : List Event) →
     AreAsked talk wire b (length w) final → Concludes (λ a. ask talk b (length w) ≡ a) wire (stop_step dir) final →
-    outcome_of (at talk b w true) ≡ Some (record { ending = ending.Waiting; written = w; leftover = left talk b (length w) })
-stop-waiting talk b w wire Read final a f = let a' = rw f at a in rw (a'.0.0) refl
-stop-waiting talk b w wire Write final a (offered, f) = let a' = rw f at a in rw (a'.0.0) refl
+    outcome_of false (at p talk b w (Some dir)) ≡ Some (record { ending = ending.Waiting; written = w; leftover = left talk b (length w) })
+stop-waiting p talk b w wire Read final a f = let a' = rw f at a in rw (a'.0.0) refl
+stop-waiting p talk b w wire Write final a (offered, f) = let a' = rw f at a in rw (a'.0.0) refl
 
 -- ---- a poll
 
@@ -318,7 +306,6 @@ pub record StoppedBy (wire : ℕ) (dir : Dir) (before after' : Option (List Even
   pub waits : waits_in calls ≡ 0
   pub asked : (h : Held) → asks (Some (begins h)) calls ≡ Some (after_stop dir (begins h))
   pub shows : (held : List Held) → registry held calls ≡ noted wire dir held
-  pub last : (earlier : Option Dir) → last_stop earlier calls ≡ Some dir
   pub goes : GoesOn old new calls
 
 -- the events of any poll, over a history at which the opening stood
@@ -327,7 +314,8 @@ pub record Polled (wire : ℕ) (old new : Opening) (events final : List Event) (
   pub written : new.written ≡ w'
   pub last : AreAsked talk wire b' (length w') final
   pub concludes : Concludes (λ a. ask talk b' (length w') ≡ a) wire answer final
-  pub through : (paused : Bool) (p : Party) → goes_through p (Some (stands_at talk b old paused)) (events ++ final) ≡ goes_through p (Some (at talk b' w' (paused-after paused events))) final
+  pub through : (paused : Option Dir) (p : Party) →
+      goes_through (Some (stands_at p talk b old paused)) (events ++ final) ≡ goes_through (Some (at p talk b' w' (paused-after paused events))) final
 
 module _ (wire : ℕ) (before after' : Option (List Event)) (old new : Opening) where
   -- the same questions, where a history is known at which they are asked
@@ -348,8 +336,8 @@ module _ (wire : ℕ) (before after' : Option (List Event)) (old new : Opening) 
         written = writes;
         last = asked-last talk wire b old.written polls.events polls.final asked;
         concludes = concludes-map (Asks Opening StandsIn written_of new) (λ a. ask talk (b ++ got) (length (old.written ++ taken)) ≡ a) wire answer polls.final (λ a h. subst (λ x. ask talk (b ++ got) (length x) ≡ a) writes (h talk (b ++ got) stands')) polls.concludes;
-        through = λ paused p. goes-append p (Some (stands_at talk b old paused)) polls.events polls.final
-            ∙ ap (λ t. goes_through p t polls.final) (moved-on p talk b old.written paused wire polls.events polls.moved first);
+        through = λ paused p. goes-append (Some (stands_at p talk b old paused)) polls.events polls.final
+            ∙ ap (λ t. goes_through t polls.final) (moved-on p talk b old.written paused wire polls.events polls.moved first);
       }
 
   poll-calls : (answer : Step) (polls : Polls Opening StandsIn written_of wire old new before after' answer) → CallsOf wire old (polls.events ++ polls.final)
@@ -369,13 +357,13 @@ module _ (wire : ℕ) (before after' : Option (List Event)) (old new : Opening) 
     waits = poll-waits (step.Done v) polls;
     asked = λ h. asks-append (Some (begins h)) polls.events polls.final ∙ (ap (λ a. asks a polls.final) (moved-asks h polls.events polls.moved) ∙ final-asks (Asks Opening StandsIn written_of new) wire v h polls.final polls.concludes);
     shows = λ held. registry-append held polls.events polls.final ∙ (ap (λ x. registry x polls.final) (moved-shows held polls.events polls.moved) ∙ final-shows (Asks Opening StandsIn written_of new) wire v held polls.final polls.concludes);
-    ends = λ talk b paused p stands.
+    ends = λ talk b paused p late stands.
         let at' = polled (step.Done v) polls talk b stands in
         let got : List ℕ = b ++ flat_map bytes_got polls.events in
         let taken : List ℕ = old.written ++ flat_map bytes_taken polls.events in
         let left-so : new.rest ≡ left talk got (length taken) = leaves-end v leaves talk got at'.stands ∙ ap (λ x. left talk got (length x)) at'.written in
-        ap (option_and_then outcome_of) (at'.through paused p)
-        ∙ (final-ends p talk got taken (paused-after paused polls.events) wire v polls.final at'.last at'.concludes
+        ap (option_and_then (outcome_of late)) (at'.through paused p)
+        ∙ (final-ends p late talk got taken (paused-after paused polls.events) wire v polls.final at'.last at'.concludes
         ∙ rw (at'.written, left-so) refl);
   }
 
@@ -391,20 +379,20 @@ module _ (wire : ℕ) (before after' : Option (List Event)) (old new : Opening) 
     waits = poll-waits (stop_step dir) polls;
     asked = λ h. asks-append (Some (begins h)) polls.events polls.final ∙ (ap (λ a. asks a polls.final) (moved-asks h polls.events polls.moved) ∙ stop-asks (Asks Opening StandsIn written_of new) wire dir h polls.final polls.concludes);
     shows = λ held. registry-append held polls.events polls.final ∙ (ap (λ x. registry x polls.final) (moved-shows held polls.events polls.moved) ∙ stop-shows (Asks Opening StandsIn written_of new) wire dir held polls.final polls.concludes);
-    last = λ earlier. last_stop-append earlier polls.events polls.final ∙ stop-last (Asks Opening StandsIn written_of new) wire dir (last_stop earlier polls.events) polls.final polls.concludes;
     goes = λ talk b stands.
         let at' = polled (stop_step dir) polls talk b stands in
         let got : List ℕ = b ++ flat_map bytes_got polls.events in
         let taken : List ℕ = old.written ++ flat_map bytes_taken polls.events in
         let left-so : new.rest ≡ left talk got (length taken) = leaves-stop dir leaves talk got at'.stands ∙ ap (λ x. left talk got (length x)) at'.written in
-        let stood : at talk got taken true ≡ stands_at talk got new true = ap (λ w. at talk got w true) (sym at'.written) in (
+        let stood : (p : Party) → at p talk got taken (Some dir) ≡ stands_at p talk got new (Some dir) = λ p. ap (λ w. at p talk got w (Some dir)) (sym at'.written) in (
           got,
           record {
             stands = at'.stands;
+            dir = dir;
             through = λ paused p. at'.through paused p
                 ∙ (stop-through p talk got taken (paused-after paused polls.events) wire dir polls.final at'.last at'.concludes
-                ∙ ap Some stood);
-            waiting = ap outcome_of (sym stood) ∙ (stop-waiting talk got taken wire dir polls.final at'.last at'.concludes ∙ rw (at'.written, left-so) refl);
+                ∙ ap Some (stood p));
+            waiting = λ p. ap (outcome_of false) (sym (stood p)) ∙ (stop-waiting p talk got taken wire dir polls.final at'.last at'.concludes ∙ rw (at'.written, left-so) refl);
           },
         );
   }

@@ -20,11 +20,11 @@ use Rattle.bus_session.specs.Parts.{part}
 use Rattle.bus_session.specs.Alone.{goes_through, outcome_of}
 use Rattle.bus_peers.specs.Headline.{after_begun}
 use Rattle.bus_peers.specs.Registry.{Held, Side, Idle, Waits, Reported, stopped, waits, side_held, stopped_held, held_at, registry}
-use Rattle.bus_peers.specs.Asking.{asks, begins, arms_at, last_stop}
-use Rattle.bus_peers.specs.Settled.{waits_in}
+use Rattle.bus_peers.specs.Asking.{asks, begins, arms_at}
+use Rattle.bus_peers.specs.Counts.{waits_in}
 use Rattle.bus_peers.specs.Shown.{Rests, shown, Tags, tags}
-use Rattle.bus_peers.specs.Visited.{is_awake, ending_of, KeepsCall, Holds, arms_told, asks_again, Readied, stands_at, GoesOn, Stops, TurnsTo, Turns, may_ask, OnAgain}
-use Rattle.bus_peers.proofs.Talks.{registry-append, asks-append, last_stop-append, goes-append, waits_in-append, AreCalls-append, stop_step, EndedBy, StoppedBy, poll-waits, poll-ended, poll-stopped}
+use Rattle.bus_peers.specs.Visited.{is_awake, ending_of, KeepsCall, Holds, arms_told, asks_again, Readied, stands_at, GoesOn, TurnsTo, Turns, may_ask, OnAgain}
+use Rattle.bus_peers.proofs.Talks.{registry-append, asks-append, goes-append, waits_in-append, AreCalls-append, stop_step, EndedBy, StoppedBy, poll-waits, poll-ended, poll-stopped}
 use Rattle.bus_peers.proofs.Readies.{stopped-wire}
 use Rattle.bus_peers.proofs.Keeps.{noted-keeps}
 use Rattle.bus_peers.proofs.Armings.{arming-quiet, arming-apart, arming-waits}
@@ -139,21 +139,15 @@ side-stopped : (dir : Dir) (h : Held) → side_held dir (stopped_held dir h) ≡
 side-stopped Read h = refl
 side-stopped Write h = refl
 
-stops-so : (dir : Dir) (h : Held) (b : Side) (calls : List Event) (is : Bool) → side_held dir h ≡ b → waits (stopped b) ≡ is → ((earlier : Option Dir) → last_stop earlier calls ≡ Some dir) → Stops calls (stopped_held dir h) is
-stops-so dir h b calls is e so last = record { dir = dir; last = last; side = ap waits (side-stopped dir h ∙ ap stopped e) ∙ so }
-
 -- how the turn ends, by how the direction stood
-turn-cases : (dir : Dir) (c c' : Opening) (calls : List Event) (h : Held) (t : Turn) (b : Side) → side_held dir h ≡ b → t ≡ (if asks_again (arms_at dir h b) then turn.Again else turn.Asleep) →
-    c'.ended ≡ false → GoesOn c c' calls → ((earlier : Option Dir) → last_stop earlier calls ≡ Some dir) → TurnsTo c c' calls (arms_at dir h b) (stopped_held dir h) t
-turn-cases dir c c' calls h t Idle e is open_ goes last =
-    let o : Option (List Event) = arms_at dir h Idle in
-    subst (λ x. TurnsTo c c' calls o (stopped_held dir h) x) (sym is) (refl, open_, goes, stops-so dir h Idle calls true e refl last)
-turn-cases dir c c' calls h t Waits e is open_ goes last =
-    let o : Option (List Event) = arms_at dir h Waits in
-    subst (λ x. TurnsTo c c' calls o (stopped_held dir h) x) (sym is) (refl, open_, goes, stops-so dir h Waits calls true e refl last)
-turn-cases dir c c' calls h t Reported e is open_ goes last =
-    let o : Option (List Event) = arms_at dir h Reported in
-    subst (λ x. TurnsTo c c' calls o (stopped_held dir h) x) (sym is) (refl, open_, goes, stops-so dir h Reported calls false e refl last)
+turn-cases : (dir : Dir) (c c' : Opening) (calls : List Event) (h : Held) (t : Turn) (b : Side) → t ≡ (if asks_again (arms_at dir h b) then turn.Again else turn.Asleep) →
+    c'.ended ≡ false → GoesOn c c' calls → TurnsTo c c' calls (arms_at dir h b) (stopped_held dir h) t
+turn-cases dir c c' calls h t Idle is open_ goes =
+    let o : Option (List Event) = arms_at dir h Idle in subst (λ x. TurnsTo c c' calls o (stopped_held dir h) x) (sym is) (refl, open_, goes)
+turn-cases dir c c' calls h t Waits is open_ goes =
+    let o : Option (List Event) = arms_at dir h Waits in subst (λ x. TurnsTo c c' calls o (stopped_held dir h) x) (sym is) (refl, open_, goes)
+turn-cases dir c c' calls h t Reported is open_ goes =
+    let o : Option (List Event) = arms_at dir h Reported in subst (λ x. TurnsTo c c' calls o (stopped_held dir h) x) (sym is) (refl, open_, goes)
 
 stopped-turn : (wire key : ℕ) (dir : Dir) (r0 r1 r2 : Option (List Event)) (old new : Core) (c c' : Opening) (again : Bool) (t : Turn) (calls : List Event) (h : Held) →
     StoppedBy wire dir r0 r1 c c' calls → c'.ended ≡ false → Readied wire key dir r1 r2 old new again h → t ≡ (if again then turn.Again else turn.Asleep) → Turns wire key r0 r2 old new c c' t
@@ -181,7 +175,7 @@ stopped-turn wire key dir r0 r1 r2 old new c c' again t calls h es open_ r is =
         made = r.made;
         begun = r.begun;
         tags = r.tags;
-        turned = turn-cases dir c c' calls h t (side_held dir h) refl (is ∙ ap (λ x. if x then turn.Again else turn.Asleep) r.again_so) open_ es.goes es.last;
+        turned = turn-cases dir c c' calls h t (side_held dir h) (is ∙ ap (λ x. if x then turn.Again else turn.Asleep) r.again_so) open_ es.goes;
       },
     )
 
@@ -211,28 +205,24 @@ GoesOn-more c c1 c2 es es2 first next = λ talk b stands.
       two.0,
       record {
         stands = two.1.stands;
-        through = λ paused p. goes-append p (Some (stands_at talk b c paused)) es es2 ∙ (ap (λ t. goes_through p t es2) (one.1.through paused p) ∙ two.1.through true p);
+        dir = two.1.dir;
+        through = λ paused p. goes-append (Some (stands_at p talk b c paused)) es es2
+            ∙ (ap (λ t. goes_through t es2) (one.1.through paused p) ∙ two.1.through (Some one.1.dir) p);
         waiting = two.1.waiting;
       },
     )
-
-Stops-more : (es es2 : List Event) (h : Held) (waiting : Bool) → Stops es2 h waiting → Stops (es ++ es2) h waiting
-Stops-more es es2 h waiting s = record {
-  dir = s.dir;
-  last = λ earlier. last_stop-append earlier es es2 ∙ s.last (last_stop earlier es);
-  side = s.side;
-}
 
 TurnsTo-more : (c c1 c2 : Opening) (es es2 : List Event) (o : Option (List Event)) (h : Held) (t : Turn) → GoesOn c c1 es → TurnsTo c1 c2 es2 o h t → TurnsTo c c2 (es ++ es2) o h t
 TurnsTo-more c c1 c2 es es2 o h (turn.Over e) goes (none, awake, ends) = (
   none,
   awake,
-  λ talk b paused p stands.
+  λ talk b paused p late stands.
       let one = goes talk b stands in
-      ap (option_and_then outcome_of) (goes-append p (Some (stands_at talk b c paused)) es es2 ∙ ap (λ t. goes_through p t es2) (one.1.through paused p)) ∙ ends talk one.0 true p one.1.stands,
+      ap (option_and_then (outcome_of late)) (goes-append (Some (stands_at p talk b c paused)) es es2 ∙ ap (λ t. goes_through t es2) (one.1.through paused p))
+      ∙ ends talk one.0 (Some one.1.dir) p late one.1.stands,
 )
-TurnsTo-more c c1 c2 es es2 o h turn.Again goes (none, open_, more, stops) = (none, open_, GoesOn-more c c1 c2 es es2 goes more, Stops-more es es2 h false stops)
-TurnsTo-more c c1 c2 es es2 o h turn.Asleep goes (some, open_, more, stops) = (some, open_, GoesOn-more c c1 c2 es es2 goes more, Stops-more es es2 h true stops)
+TurnsTo-more c c1 c2 es es2 o h turn.Again goes (none, open_, more) = (none, open_, GoesOn-more c c1 c2 es es2 goes more)
+TurnsTo-more c c1 c2 es es2 o h turn.Asleep goes (some, open_, more) = (some, open_, GoesOn-more c c1 c2 es es2 goes more)
 
 assoc_arms : (es es2 ms : List Event) → (es ++ []) ++ (es2 ++ ms) ≡ (es ++ es2) ++ ms
 assoc_arms es es2 ms = ap (λ x. x ++ (es2 ++ ms)) (append-nil es) ∙ sym (append_assoc es es2 ms)

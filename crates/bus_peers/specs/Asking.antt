@@ -13,8 +13,8 @@ pub record Asking : Type 0 where
   pub held : Held
   pub over : Option (List Event)
 
--- After a NotReady the visit asks again exactly where the direction was reported. Else it is over, and arms its directions
--- that wait where this one did not.
+-- After a NotReady the visit asks again exactly where the direction was reported. Else it is over, and arms its
+-- directions that wait where this one did not.
 abbrev pub arms_at : Dir → Held → Side → Option (List Event)
 arms_at dir h Idle = Some (arming (stopped_held dir h))
 arms_at dir h Waits = Some []
@@ -46,8 +46,3 @@ abbrev pub stop_of : Event → Option Dir
 stop_of (event.Recv w asked recv_answer.NotReady) = Some Read
 stop_of (event.Send w offered send_answer.NotReady) = Some Write
 stop_of e = None
-
--- the direction that the last of these events pauses
-abbrev pub last_stop : Option Dir → List Event → Option Dir
-last_stop dir [] = dir
-last_stop dir (e ∷ events) = last_stop (stop_of e) events

@@ -1,5 +1,7 @@
--- What a record shows of the sources: which wires are registered under which keys, and how each of their directions stands.
-use Rattle.std.specs.Prelude.{◌≢◌, ◌+◌, ◌≤◌, ℕ, Bool, true, false, ◌||◌, nat_lt, ◌==◌, if◌then◌else◌, List, [], ◌∷◌, ◌++◌, Option, Some, None}
+-- What a record shows of the sources: which wires are registered under which keys, and how each of their directions
+-- stands.
+use Rattle.std.specs.Prelude.{◌≢◌, ◌+◌, ◌≤◌, ℕ, Bool, true, false, ◌||◌, nat_lt, ◌==◌, if◌then◌else◌}
+use Rattle.std.specs.Prelude.{List, [], ◌∷◌, ◌++◌, Option, Some, None}
 use Rattle.react_core.specs.declared.outside.Event.{Event}
 use Rattle.react_core.specs.declared.outside.Event.TheVariants as event
 use Rattle.react_core.specs.declared.outside.RecvAnswer.TheVariants as recv_answer
@@ -88,9 +90,13 @@ after_wait held (wait_answer.Reported reports) = after_reports_held held reports
 after_wait held wait_answer.Interrupted = held
 after_wait held wait_answer.Failed = held
 
+-- a new source
+abbrev pub idle : ℕ → ℕ → Held
+idle wire key = record { key = key; wire = wire; read = Idle; write = Idle }
+
 -- who is registered after one more event; an arming changes no side
 abbrev pub held_after : List Held → Event → List Held
-held_after held (event.Add wire key true) = with_held held (record { key = key; wire = wire; read = Idle; write = Idle })
+held_after held (event.Add wire key true) = with_held held (idle wire key)
 held_after held (event.Delete wire key ok) = without_held held key
 held_after held (event.Wait timeout answer) = after_wait held answer
 held_after held (event.Recv wire asked recv_answer.NotReady) = noted wire Read held
@@ -104,7 +110,8 @@ registry held (e ∷ events) = registry (held_after held e) events
 
 -- the arming of what waits, and no event where nothing does
 abbrev pub arming : Held → List Event
-arming h = if waits h.read || waits h.write then event.Modify h.wire h.key (waits h.read) (waits h.write) true ∷ [] else []
+arming h =
+    if waits h.read || waits h.write then event.Modify h.wire h.key (waits h.read) (waits h.write) true ∷ [] else []
 
 -- the re-arming after reports, in their order: for each whose key has a holder, what of it still waits then
 abbrev pub rearming_of : Option Held → Report → List Event

@@ -17,7 +17,7 @@ use Rattle.bus_peers.specs.declared.open.OpenError.{OpenError}
 use Rattle.bus_peers.specs.declared.open.OpenError.TheVariants as open_err
 use Rattle.bus_peers.specs.RoundEvents.{Round, IsRound}
 use Rattle.bus_peers.specs.Registry.{registry}
-use Rattle.bus_peers.specs.Settled.{AreDue, round_events}
+use Rattle.bus_peers.specs.Dues.{AreDue, round_events}
 use Rattle.bus_peers.specs.Shown.{Rests, shown, Tags, has_wire}
 
 -- a task stands behind those that were woken before, unless memory ran out

@@ -1,8 +1,8 @@
 -- Where the sessions stand between their visits, in the code and in the record.
-use Rattle.std.specs.Prelude.{◌≡◌, ◌≢◌, ◌⊎◌, ◌<◌, ◌≤◌, ◌^◌, ◌-◌, ℕ, ◌+◌, Bool, true, false, not, List, [], ◌∷◌, ◌++◌, map, take, length, Option, Some, None, Result, Ok, Err}
-use Rattle.std.specs.Option.{option_map}
+use Rattle.std.specs.Prelude.{◌≡◌, ◌≢◌, ◌⊎◌, ◌<◌, ◌≤◌, ◌^◌, ◌-◌, ℕ, ◌+◌, Bool, true, false, not, List, [], ◌∷◌, map, take, length, count_by, Option, Some, None, Result, Ok, Err}
 use Rattle.std.specs.List.{list_all}
 use Rattle.react_core.specs.declared.outside.Event.{Event}
+use Rattle.react_core.specs.declared.reactor.Counter.TheVariants as counter
 use Rattle.react_core.specs.declared.reactor.Dir.{Dir}
 use Rattle.react_core.specs.Core.{Core}
 use Rattle.react_core.specs.Told.{told}
@@ -10,18 +10,23 @@ use Rattle.bus_opening.specs.Talk.{Said}
 use Rattle.bus_opening.specs.Openings.{Opening, StandsIn}
 use Rattle.bus_session.specs.declared.ended.Ending.TheVariants as ending
 use Rattle.bus_session.specs.declared.session.Session.{Session}
+use Rattle.bus_session.specs.Parts.{part}
+use Rattle.bus_session.specs.Sessions.{is_built}
+use Rattle.bus_session.specs.Alone.{course}
+use Rattle.bus_record.specs.Pieces as pieces
+use Rattle.bus_record.specs.Pieces.{Pieces, ◌▸◌, visit, rounds_in, armings_in, is_modify}
+use Rattle.bus_record.specs.Places.{key_of, waits, paused, moment}
+use Rattle.bus_record.specs.Visits.{was_visited, Visit}
+use Rattle.bus_record.specs.Settled.{AllRest, Run, sleepers, comes_to}
+use Rattle.bus_record.specs.Headline.{IsEnding}
 use Rattle.bus_peers.specs.declared.visiting.Slot.{Slot}
 use Rattle.bus_peers.specs.declared.visiting.Slot.TheVariants as slot
 use Rattle.bus_peers.specs.declared.open.OpenError.{OpenError}
 use Rattle.bus_peers.specs.declared.open.OpenError.TheVariants as open_err
-use Rattle.react_core.specs.declared.reactor.Counter.TheVariants as counter
-use Rattle.bus_session.specs.Parts.{part}
-use Rattle.bus_session.specs.Dialled.{first_question}
-use Rattle.bus_session.specs.Alone.{dials, goes_through, alone, outcome}
+use Rattle.bus_peers.specs.Counts.{waits_in}
 use Rattle.bus_peers.specs.Headline.{after_begun}
-use Rattle.bus_peers.specs.Registry.{Held, waits, side_held, held_at, registry}
-use Rattle.bus_peers.specs.Asking.{last_stop}
-use Rattle.bus_peers.specs.Settled.{is_armed, Visit, Run, AllRest, waits_in, armings_in, is_in}
+use Rattle.bus_peers.specs.Shows.{Shows}
+use Rattle.bus_peers.specs.Dues.{is_in}
 use Rattle.bus_peers.specs.Shown.{Rests, shown, Tags, tag_at, has_wire, Single, are_below}
 use Rattle.bus_peers.specs.Visited.{is_awake, stands_at}
 
@@ -54,103 +59,113 @@ AllOpen slots = list_all is_open_slot slots ≡ true
 
 -- ---- where a session stands in the record
 
--- its conversation stands there, paused
-pub record Talking (s : Session) (wire : ℕ) (q : List Event) (c : Opening) : Type 0 where
+-- its conversation stands there, paused in this direction
+pub record Talking (s : Session) (wire : ℕ) (past : Pieces) (c : Opening) : Type 0 where
   pub talk : List (List ℕ) → Said
   pub got : List ℕ
-  pub stands : StandsIn talk got c
-  pub through : goes_through s.party (option_map dials (first_question s.party)) (part wire q) ≡ Some (stands_at talk got c true)
-
--- Each direction that waits is armed. The one that its last wire answer paused waits, unless the session is still to be visited
--- in this round.
-pub record Paused (wire : ℕ) (q : List Event) (key : ℕ) (pending : List ℕ) : Type 0 where
-  pub held : Held
-  pub registered : held_at (registry [] q) key ≡ Some held
-  pub own : held.wire ≡ wire
   pub dir : Dir
-  pub last : last_stop None (part wire q) ≡ Some dir
-  pub armed : (d : Dir) → waits (side_held d held) ≡ true → is_armed key d false q ≡ true
-  pub waits_or_due : (waits (side_held dir held) ≡ true) ⊎ (is_in wire pending ≡ true)
+  pub stands : StandsIn talk got c
+  pub through : course s (part wire (pieces.told past)) ≡ Some (stands_at s.party talk got c (Some dir))
 
-abbrev pub Stands : Session → ℕ → List ℕ → List Event → Slot → Type 0
-Stands s wire pending q (slot.Ended e) = record {
-  wired : e.wire ≡ wire;
-  unread : e.moment ≡ None;
+-- The direction that its last wire answer paused waits, unless the session is still to be visited in this round.
+pub record Paused (wire : ℕ) (past : Pieces) (key : ℕ) (pending : List ℕ) : Type 0 where
+  pub registered : key_of wire past ≡ Some key
+  pub dir : Dir
+  pub last : paused wire past ≡ Some dir
+  pub waits_or_due : (waits dir wire past ≡ true) ⊎ (is_in wire pending ≡ true)
+
+-- where a session stands, some of which are still to be visited
+abbrev pub Stands : Session → ℕ → List ℕ → Pieces → Slot → Type 0
+Stands s wire pending past (slot.Ended e) = record {
+  comes : IsEnding s wire past e;
   awake : is_awake e.ending ≡ true;
-  comes : alone s (part wire q) ≡ Some (outcome e);
+  gone : key_of wire past ≡ None;
 }
-Stands s wire pending q (slot.Asleep c) = record {
+Stands s wire pending past (slot.Asleep c) = record {
   open_ : c.client.ended ≡ false;
-  comes : alone s (part wire q) ≡ Some (record { ending = ending.Waiting; written = c.client.written; leftover = c.client.rest });
-  talking : Talking s wire q c.client;
-  paused : Paused wire q c.key pending;
+  unread : moment wire past ≡ None;
+  comes : comes_to s wire past ≡ Some (record { ending = ending.Waiting; written = c.client.written; leftover = c.client.rest });
+  talking : Talking s wire past c.client;
+  paused : Paused wire past c.key pending;
 }
-Stands s wire pending q slot.Refused = ⊥
+Stands s wire pending past slot.Refused = ⊥
 
 -- the first of these sessions is that of this wire
-abbrev pub AllStand : ℕ → List ℕ → List Session → List Slot → List Event → Type 0
-AllStand wire pending [] [] q = Unit {0}
-AllStand wire pending (s ∷ sessions) (c ∷ slots) q = Stands s wire pending q c × AllStand (wire + 1) pending sessions slots q
-AllStand wire pending [] (c ∷ slots) q = ⊥
-AllStand wire pending (s ∷ sessions) [] q = ⊥
+abbrev pub AllStand : ℕ → List ℕ → List Session → List Slot → Pieces → Type 0
+AllStand wire pending [] [] past = Unit {0}
+AllStand wire pending (s ∷ sessions) (c ∷ slots) past = Stands s wire pending past c × AllStand (wire + 1) pending sessions slots past
+AllStand wire pending [] (c ∷ slots) past = ⊥
+AllStand wire pending (s ∷ sessions) [] past = ⊥
+
+-- a session that was not visited yet
+pub record IsNew (wire : ℕ) (past : Pieces) : Type 0 where
+  pub unvisited : was_visited wire past ≡ false
+  pub unheard : part wire (pieces.told past) ≡ []
 
 -- ---- the call under way
 
--- The events q were told since the start of the call, and these sessions are still to be visited before the next round.
-pub record Going (sessions : List Session) (rounds : ℕ) (pending : List ℕ) (start : Core) (before after : Option (List Event)) (core : Core) (slots : List Slot) (q : List Event) (armed : ℕ) : Type 0 where
-  pub gained : after ≡ told before q
-  pub run : Run sessions rounds q armed pending
-  pub shows : registry [] q ≡ map shown core.sources
+-- These pieces were told since the start of the call, and these sessions are still to be visited before the next round.
+pub record Going (sessions : List Session) (rounds : ℕ) (pending : List ℕ) (start : Core) (before after : Option (List Event)) (core : Core)
+    (slots : List Slot) (past : Pieces) : Type 0 where
+  pub gained : after ≡ told before (pieces.told past)
+  pub run : Run sessions rounds past pending
+  pub shows : Shows past (map shown core.sources)
   pub rests : Rests core
-  pub stands : AllStand 0 pending (take (length slots) sessions) slots q
+  pub stands : AllStand 0 pending (take (length slots) sessions) slots past
   -- the sessions without a slot were not dialled yet
-  pub unused : (w : ℕ) → length slots ≤ w → part w q ≡ []
-  pub ticker : core.ticker ≡ start.ticker + waits_in q
+  pub unused : (w : ℕ) → length slots ≤ w → IsNew w past
+  -- the record has as many waits as it has rounds
+  pub counted : waits_in (pieces.told past) ≡ rounds_in past
+  pub ticker : core.ticker ≡ start.ticker + rounds_in past
   pub made : core.made ≡ start.made
-  pub begun : core.begun ≡ after_begun start.begun armed
+  pub begun : core.begun ≡ after_begun start.begun (armings_in past)
 
 -- the call stands there after so many rounds
 abbrev pub Went : List Session → ℕ → List ℕ → ℕ → Core → Option (List Event) → Option (List Event) → Core → List Slot → Type 0
 Went sessions rounds pending n start before after core slots =
-    (q : List Event) × (armed : ℕ) × (waits_in q ≡ n) × Going sessions rounds pending start before after core slots q armed
+    (past : Pieces) × (rounds_in past ≡ n) × Going sessions rounds pending start before after core slots past
+
+-- no session has a deadline
+abbrev pub AllBuilt : List Session → Type 0
+AllBuilt sessions = list_all is_built sessions ≡ true
 
 -- one visit after another: from where these sessions are to be visited to where those are, whatever the call began with
 abbrev pub GoesFrom : List ℕ → List ℕ → Option (List Event) → Option (List Event) → Core → Core → List Slot → List Slot → Type 0
 GoesFrom pending pending' r0 r1 old new slots slots' =
-    (sessions : List Session) (rounds n : ℕ) (start : Core) (before : Option (List Event)) →
+    (sessions : List Session) (rounds n : ℕ) (start : Core) (before : Option (List Event)) → AllBuilt sessions →
     Went sessions rounds pending n start before r0 old slots → Went sessions rounds pending' n start before r1 new slots'
 
 -- a round and its visits, where one is left and a session sleeps
 abbrev pub GoesRound : Option (List Event) → Option (List Event) → Core → Core → List Slot → List Slot → Type 0
 GoesRound r0 r1 old new slots slots' =
-    (sessions : List Session) (rounds n : ℕ) (start : Core) (before : Option (List Event)) → length slots ≡ length sessions → n < rounds → old.sources ≢ [] →
+    (sessions : List Session) (rounds n : ℕ) (start : Core) (before : Option (List Event)) → AllBuilt sessions → length slots ≡ length sessions →
+    n < rounds → old.sources ≢ [] →
     Went sessions rounds [] n start before r0 old slots → Went sessions rounds [] (n + 1) start before r1 new slots'
 
 -- all rounds that were due, from the first visits on
-pub record Rested (sessions : List Session) (rounds : ℕ) (start : Core) (before after : Option (List Event)) (core : Core) (slots : List Slot) (q : List Event) (armed : ℕ) : Type 0 where
-  pub going : Going sessions rounds [] start before after core slots q armed
-  pub rest : AllRest sessions q
-  pub spent : (waits_in q ≡ rounds) ⊎ (registry [] q ≡ [])
+pub record Rested (sessions : List Session) (rounds : ℕ) (start : Core) (before after : Option (List Event)) (core : Core) (slots : List Slot)
+    (past : Pieces) : Type 0 where
+  pub going : Going sessions rounds [] start before after core slots past
+  pub rest : AllRest sessions past
+  pub spent : (sleepers sessions past ≡ []) ⊎ (rounds_in past ≡ rounds)
 
 abbrev pub GoesRounds : ℕ → Option (List Event) → Option (List Event) → Core → Core → List Slot → List Slot → Type 0
 GoesRounds rounds r0 r1 old new slots slots' =
-    (sessions : List Session) (start : Core) (before : Option (List Event)) → length slots ≡ length sessions →
-    Went sessions rounds [] 0 start before r0 old slots → (q : List Event) × (armed : ℕ) × Rested sessions rounds start before r1 new slots' q armed
+    (sessions : List Session) (start : Core) (before : Option (List Event)) → AllBuilt sessions → length slots ≡ length sessions →
+    Went sessions rounds [] 0 start before r0 old slots → (past : Pieces) × Rested sessions rounds start before r1 new slots' past
 
 -- what one visit comes to, in the record
-pub record Goes (s : Session) (wire : ℕ) (q : List Event) (before after : Option (List Event)) (old new : Core) (c : Slot) (v : List Event) : Type 0 where
+pub record Goes (s : Session) (wire : ℕ) (past : Pieces) (before after : Option (List Event)) (old new : Core) (c : Slot) (v : List Event) : Type 0 where
   pub gained : after ≡ told before v
-  pub visit : Visit s wire q v
-  pub shows : registry [] (q ++ v) ≡ map shown new.sources
+  pub visits : Visit s wire past v
+  pub shows : Shows (past ▸ visit wire v) (map shown new.sources)
   pub others : (w : ℕ) → w ≢ wire → part w v ≡ []
-  pub keeps : (k : ℕ) (x : Held) → held_at (registry [] q) k ≡ Some x → x.wire ≢ wire → held_at (registry [] (q ++ v)) k ≡ Some x
-  pub arms : (k : ℕ) (x : Held) (d : Dir) → held_at (registry [] q) k ≡ Some x → x.wire ≢ wire → is_armed k d false (q ++ v) ≡ is_armed k d false q
   pub rests : Rests new
   pub ticker : new.ticker ≡ old.ticker
   pub made : new.made ≡ old.made
-  pub begun : new.begun ≡ after_begun old.begun (armings_in v)
+  pub begun : new.begun ≡ after_begun old.begun (count_by is_modify v)
   pub waits : waits_in v ≡ 0
-  pub stands : (pending : List ℕ) → Stands s wire pending (q ++ v) c
+  pub stands : (pending : List ℕ) → Stands s wire pending (past ▸ visit wire v) c
 
 -- ---- refusals
 
@@ -172,22 +187,22 @@ Refuses (Ok v) before after old new = Unit {0}
 Refuses (Err e) before after old new = RefusedAt e before after old new
 
 -- Where a round's number ran out, the call stood at the end of its visits, and a session slept.
-pub record Halted (sessions : List Session) (rounds : ℕ) (start : Core) (before after : Option (List Event)) (core : Core) (slots : List Slot) (q : List Event) (armed : ℕ) : Type 0 where
-  pub going : Going sessions rounds [] start before after core slots q armed
-  pub rest : AllRest sessions q
-  pub sleeper : registry [] q ≢ []
-  pub left : waits_in q < rounds
+pub record Halted (sessions : List Session) (rounds : ℕ) (start : Core) (before after : Option (List Event)) (core : Core) (slots : List Slot) (past : Pieces) : Type 0 where
+  pub going : Going sessions rounds [] start before after core slots past
+  pub rest : AllRest sessions past
+  pub sleeper : sleepers sessions past ≢ []
+  pub left : rounds_in past < rounds
 
 abbrev pub Stuck : {T : Type 0} → Result T OpenError → ℕ → Option (List Event) → Option (List Event) → Core → Core → List Slot → List Slot → Type 0
 Stuck (Ok v) rounds r0 r1 old new slots slots' = Unit {0}
 Stuck (Err open_err.OutOfMemory) rounds r0 r1 old new slots slots' = Unit {0}
 Stuck (Err open_err.Poller) rounds r0 r1 old new slots slots' = Unit {0}
 Stuck (Err (open_err.Exhausted c value)) rounds r0 r1 old new slots slots' =
-    (sessions : List Session) (start : Core) (before : Option (List Event)) → length slots ≡ length sessions →
-    Went sessions rounds [] 0 start before r0 old slots → (q : List Event) × (armed : ℕ) × Halted sessions rounds start before r1 new slots' q armed
+    (sessions : List Session) (start : Core) (before : Option (List Event)) → AllBuilt sessions → length slots ≡ length sessions →
+    Went sessions rounds [] 0 start before r0 old slots → (past : Pieces) × Halted sessions rounds start before r1 new slots' past
 
 abbrev pub Halts : {T : Type 0} → Result T OpenError → List Session → ℕ → Core → Option (List Event) → Option (List Event) → Core → List Slot → Type 0
 Halts (Ok v) sessions rounds start before after core slots = Unit {0}
 Halts (Err open_err.OutOfMemory) sessions rounds start before after core slots = Unit {0}
 Halts (Err open_err.Poller) sessions rounds start before after core slots = Unit {0}
-Halts (Err (open_err.Exhausted c value)) sessions rounds start before after core slots = (q : List Event) × (armed : ℕ) × Halted sessions rounds start before after core slots q armed
+Halts (Err (open_err.Exhausted c value)) sessions rounds start before after core slots = (past : Pieces) × Halted sessions rounds start before after core slots past

@@ -25,12 +25,14 @@ use Rattle.bus_peers.specs.declared.visiting.Slot.TheVariants as slot
 use Rattle.bus_peers.specs.declared.open.OpenError.{OpenError}
 use Rattle.bus_peers.specs.declared.open.OpenError.TheVariants as open_err
 use Rattle.bus_session.specs.Parts.{part}
-use Rattle.bus_session.specs.Dialled.{first_question, conversation}
-use Rattle.bus_session.specs.Alone.{Progress, converses, goes_through, outcome_of}
+use Rattle.bus_session.specs.Dialling.{conversation}
+use Rattle.bus_session.specs.Alone.{Course, converses, goes_through, outcome_of}
 use Rattle.bus_peers.specs.Headline.{after_begun}
 use Rattle.bus_peers.specs.Registry.{Held, Side, Idle, Waits, Reported, waits, side_held, held_at, with_held, registry, noted, stopped_held}
-use Rattle.bus_peers.specs.Asking.{asks, begins, arms_at, last_stop}
-use Rattle.bus_peers.specs.Settled.{AreCalls, waits_in}
+use Rattle.bus_peers.specs.Asking.{asks, begins, arms_at}
+use Rattle.bus_peers.specs.Calls.{AreCalls}
+use Rattle.bus_peers.specs.Conversations.{unix_wire, AsksFirst}
+use Rattle.bus_peers.specs.Counts.{waits_in}
 use Rattle.bus_peers.specs.Shown.{Rests, shown, Tags, tags, without_tag, tag_at, has_wire, Single}
 
 -- the record grew
@@ -77,7 +79,7 @@ dial_event wire asked (Some opened) = event.Dial wire asked (dial_answer.Opened 
 dial_event wire asked None = event.Dial wire asked dial_answer.Failed
 
 abbrev pub DialTold : {E : Type 0} → Session → ℕ → Result (Option Opened) E → Option (List Event) → Option (List Event) → Type 0
-DialTold s wire (Ok opened) before after = (asked : Question) × (first_question s.party ≡ Some asked) × (after ≡ told before (dial_event wire asked opened ∷ []))
+DialTold s wire (Ok opened) before after = (asked : Question) × AsksFirst s asked × (after ≡ told before (dial_event wire asked opened ∷ []))
 DialTold s wire (Err e) before after = after ≡ told before []
 
 -- ---- a NotReady
@@ -110,35 +112,30 @@ pub record Readied (wire key : ℕ) (dir : Dir) (before after : Option (List Eve
 
 -- ---- the calls of a conversation
 
--- a conversation at which these bytes came, whose opening stands here
-abbrev pub stands_at : (List (List ℕ) → Said) → List ℕ → Opening → Bool → Progress
-stands_at talk b c paused = converses talk (record { got = b; written = c.written; paused = paused })
+-- a session to whose conversation these bytes came, and whose opening stands here, paused in this direction or not
+abbrev pub stands_at : Party → (List (List ℕ) → Said) → List ℕ → Opening → Option Dir → Course
+stands_at p talk b c paused = record { party = p; progress = converses talk (record { got = b; written = c.written; paused = paused }) }
 
 -- it has ended so by these calls, for the session alone
 abbrev pub EndsAs : Opening → Ending → List ℕ → List ℕ → List Event → Type 0
-EndsAs c e written leftover calls = (talk : List (List ℕ) → Said) (b : List ℕ) (paused : Bool) (p : Party) → StandsIn talk b c →
-    option_and_then outcome_of (goes_through p (Some (stands_at talk b c paused)) calls) ≡ Some (record { ending = e; written = written; leftover = leftover })
+EndsAs c e written leftover calls = (talk : List (List ℕ) → Said) (b : List ℕ) (paused : Option Dir) (p : Party) (late : Bool) → StandsIn talk b c →
+    option_and_then (outcome_of late) (goes_through (Some (stands_at p talk b c paused)) calls) ≡ Some (record { ending = e; written = written; leftover = leftover })
 
 -- it goes on so, paused by the last of these calls
 pub record Pauses (talk : List (List ℕ) → Said) (b : List ℕ) (c c' : Opening) (calls : List Event) (b' : List ℕ) : Type 0 where
   pub stands : StandsIn talk b' c'
-  pub through : (paused : Bool) (p : Party) → goes_through p (Some (stands_at talk b c paused)) calls ≡ Some (stands_at talk b' c' true)
-  pub waiting : outcome_of (stands_at talk b' c' true) ≡ Some (record { ending = ending.Waiting; written = c'.written; leftover = c'.rest })
+  pub dir : Dir
+  pub through : (paused : Option Dir) (p : Party) → goes_through (Some (stands_at p talk b c paused)) calls ≡ Some (stands_at p talk b' c' (Some dir))
+  pub waiting : (p : Party) → outcome_of false (stands_at p talk b' c' (Some dir)) ≡ Some (record { ending = ending.Waiting; written = c'.written; leftover = c'.rest })
 
 abbrev pub GoesOn : Opening → Opening → List Event → Type 0
 GoesOn c c' calls = (talk : List (List ℕ) → Said) (b : List ℕ) → StandsIn talk b c → (b' : List ℕ) × Pauses talk b c c' calls b'
 
--- the calls end with a NotReady of a direction that now waits, or not
-pub record Stops (calls : List Event) (h : Held) (waiting : Bool) : Type 0 where
-  pub dir : Dir
-  pub last : (before : Option Dir) → last_stop before calls ≡ Some dir
-  pub side : waits (side_held dir h) ≡ waiting
-
 -- how a turn ends, what it arms, and how the conversation stands then
 abbrev pub TurnsTo : Opening → Opening → List Event → Option (List Event) → Held → Turn → Type 0
 TurnsTo c c' calls o h (turn.Over e) = (o ≡ None) × (is_awake e ≡ true) × EndsAs c e c'.written c'.rest calls
-TurnsTo c c' calls o h turn.Again = (o ≡ None) × (c'.ended ≡ false) × GoesOn c c' calls × Stops calls h false
-TurnsTo c c' calls o h turn.Asleep = (is_some o ≡ true) × (c'.ended ≡ false) × GoesOn c c' calls × Stops calls h true
+TurnsTo c c' calls o h turn.Again = (o ≡ None) × (c'.ended ≡ false) × GoesOn c c' calls
+TurnsTo c c' calls o h turn.Asleep = (is_some o ≡ true) × (c'.ended ≡ false) × GoesOn c c' calls
 
 -- One or more turns: the calls of the wire, the arming that ends them, and how the directions then stand.
 pub record Turned (wire key : ℕ) (before after : Option (List Event)) (old new : Core) (c c' : Opening) (t : Turn) (h h' : Held) (calls : List Event) (o : Option (List Event)) : Type 0 where
@@ -217,7 +214,6 @@ StaysAs wire key c calls o held h (slot.Asleep s) = record {
   at : s.key ≡ key;
   open_ : s.client.ended ≡ false;
   goes : GoesOn c s.client calls;
-  stops : Stops calls h true;
   held : held_at held key ≡ Some h;
 }
 StaysAs wire key c calls o held h slot.Refused = ⊥
@@ -249,7 +245,7 @@ Stays wire key before after old new c s =
 
 -- a wire was opened: its source was registered, and the conversation begun
 pub record Registered (s : Session) (wire : ℕ) (passes : Bool) (before after : Option (List Event)) (old new : Core) (c : Slot) (talk : List (List ℕ) → Said) (client : Opening) (key : ℕ) (mid : Core) : Type 0 where
-  pub begins : conversation s.party passes ≡ talk
+  pub begins : conversation s.party (unix_wire passes) ≡ talk
   pub stands : StandsIn talk [] client
   pub unwritten : client.written ≡ []
   pub free : held_at (map shown old.sources) key ≡ None
@@ -269,8 +265,8 @@ FirstTags wire old new slot.Refused = ⊥
 
 pub data FirstVisits (s : Session) (wire : ℕ) (before after : Option (List Event)) (old new : Core) (c : Slot) : Type 0 where
   -- the dialling failed
-  undialled : (asked : Question) (e : Ended) → first_question s.party ≡ Some asked →
+  undialled : (asked : Question) (e : Ended) → AsksFirst s asked →
       after ≡ told before (event.Dial wire asked dial_answer.Failed ∷ []) → new ≡ old → c ≡ slot.Ended e →
       e ≡ record { ending = ending.Connection; written = []; leftover = []; wire = wire; moment = None } → FirstVisits s wire before after old new c
-  dialled : (asked : Question) (passes : Bool) → first_question s.party ≡ Some asked →
+  dialled : (asked : Question) (passes : Bool) → AsksFirst s asked →
       Registers s wire passes (told before (event.Dial wire asked (dial_answer.Opened passes) ∷ [])) after old new c → FirstVisits s wire before after old new c

@@ -2,8 +2,8 @@
 
 ghost use Rattle.std.specs.Prelude.{◌≡◌, [], false, IfOk};
 ghost use Rattle.bus_opening.specs.Openings.{Opening, StandsIn, written_of, rest_of, ended_of};
-ghost use Rattle.bus_peers.specs.Conversations.{opening_of};
-ghost use Rattle.bus_session.specs.Dialled.{conversation};
+ghost use Rattle.bus_peers.specs.Conversations.{opening_of, unix_wire};
+ghost use Rattle.bus_session.specs.Dialling.{conversation};
 
 use bus_opening::{Client, Handshake, Server, Step};
 use bus_session::Party;
@@ -37,7 +37,7 @@ impl Conversation {
         party: &Party,
         passes: bool,
     ) -> Result<Conversation, OutOfMemory>
-        ensures stands { IfOk result (λ c. StandsIn (conversation party.now passes) [] c) }
+        ensures stands { IfOk result (λ c. StandsIn (conversation party.now (unix_wire passes)) [] c) }
         ensures written { IfOk result (λ c. c.written ≡ []) }
         ensures open { IfOk result (λ c. c.ended ≡ false) }
     {

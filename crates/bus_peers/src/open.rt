@@ -7,6 +7,7 @@ ghost use Rattle.react_core.specs.Outer.{Keeps};
 ghost use Rattle.react_core.specs.Outer as part;
 ghost use Rattle.react_core.specs.Told.{told, Rose};
 ghost use Rattle.react_core.specs.declared.outside.Event.{Event};
+ghost use Rattle.bus_record.specs.Pieces.{Pieces};
 ghost use Rattle.bus_peers.specs.Faults.{AllCounted, EndedsCounted};
 ghost use Rattle.bus_peers.specs.Headline.{Opened, RefusedWith, OpenCounted, Completes};
 ghost use Rattle.bus_session.specs.Sessions.{is_built};
@@ -130,7 +131,7 @@ fn open_rounds<O: Outside>(
     requires empty { reactor.old.core.sources ≡ [] }
     requires unused { slots.old.items ≡ [] }
     requires room { length sessions.now.items ≤ vec_capacity slots.old }
-    ensures rested { OnOk result ((q : List Event) × (armed : ℕ) × Rested sessions.now.items rounds reactor.old.core ((O.outer outside.old).events) ((O.outer outside.new).events) reactor.new.core slots.new.items q armed) }
+    ensures rested { OnOk result ((past : Pieces) × Rested sessions.now.items rounds reactor.old.core ((O.outer outside.old).events) ((O.outer outside.new).events) reactor.new.core slots.new.items past) }
     ensures halted { Halts result sessions.now.items rounds reactor.old.core ((O.outer outside.old).events) ((O.outer outside.new).events) reactor.new.core slots.new.items }
     ensures len { OnOk result (length slots.new.items ≡ length sessions.now.items) }
     ensures few { length slots.new.items < 2 ^ 32 }

@@ -4,8 +4,8 @@ use Rattle.react_core.specs.declared.outside.Event.{Event}
 use Rattle.react_core.specs.Outer.{Keeps}
 use Rattle.react_core.specs.Outer as part
 use Rattle.react_core.specs.Told.{told}
-use Rattle.bus_peers.specs.Headline.{is_delete}
-use Rattle.bus_peers.specs.Settled.{closing}
+use Rattle.bus_peers.specs.Counts.{is_delete}
+use Rattle.bus_peers.specs.Closing.{closing}
 use Rattle.bus_peers.specs.Shown.{shown, tags}
 use Rattle.bus_peers.specs.Visited.{VisitCounted}
 use Rattle.bus_peers.proofs.ClosingLemmas.{Left, with_sources}

@@ -4,15 +4,16 @@ use Rattle.std.proofs.lemmas.List.{length-append}
 use Rattle.std.proofs.lemmas.Option.{slice_get-get_or}
 use Rattle.bus_session.specs.declared.session.Session.{Session}
 use Rattle.bus_peers.specs.declared.visiting.Slot.{Slot}
-use Rattle.bus_peers.specs.Settled.{counting}
+use Rattle.bus_peers.specs.Closing.{counting}
 use Rattle.bus_peers.specs.Shown.{tags}
 use Rattle.bus_peers.specs.Slots.{Owned, Went, Refuses, is_open_slot}
+use Rattle.bus_session.specs.Sessions.{is_built}
 use Rattle.bus_peers.specs.Visited.{FirstVisits}
 use Rattle.react_core.specs.Outer.{keeps-same, keeps-then, visit-in-all}
 use Rattle.react_core.specs.Outer as part
 use Rattle.bus_peers.specs.Faults.{AllCounted}
 use Rattle.bus_peers.proofs.FrameLemmas.{fell-all, first-made, all-none, all-more}
-use Rattle.bus_peers.proofs.SlotLemmas.{test-more, no_wire-above, owned-none, owned-first, first-open, refuses-more}
+use Rattle.bus_peers.proofs.SlotLemmas.{test-at, test-more, no_wire-above, owned-none, owned-first, first-open, refuses-more}
 use Rattle.bus_peers.proofs.GoingLemmas.{going-start, going-first, went-told}
 use Rattle.bus_peers.proofs.open.open_first.Goals as goal
 
@@ -37,7 +38,7 @@ loop-session-init g c =
     }
 
 pub first_visit-requires-clause-rests : goal.first_visit-requires-clause-rests
-first_visit-requires-clause-rests g c = (c.loop-session.invariant.went 0).3.rests
+first_visit-requires-clause-rests g c = (c.loop-session.invariant.went 0).2.rests
 
 pub first_visit-requires-clause-new : goal.first_visit-requires-clause-new
 first_visit-requires-clause-new g c =
@@ -67,7 +68,7 @@ loop-session-preserved g c =
       room = omega (arith, c.loop-session.invariant.room, c.push_reserved.ensures.capacity);
       went = λ rounds. subst (W rounds) {x = c.loop-session.slots.items ++ c.in_ok-first_visit.field-0 ∷ []} (sym {A = List Slot} c.push_reserved.ensures.items)
           (going-first c.deref-session-items.result.now rounds c.loop-session.session-index c.args.reactor.now.core ((g.O.Tells.outer c.args.outside.now).events) ((g.O.Tells.outer c.loop-session.outside).events) ((g.O.Tells.outer c.first_visit.new.outside).events) c.loop-session.reactor.core c.first_visit.new.reactor.core c.loop-session.slots.items
-          c.session-item.result c.in_ok-first_visit.field-0 here at (subst V c.loop-session.invariant.wire c.in_ok-first_visit.ensures.visited) (c.loop-session.invariant.went rounds));
+          c.session-item.result c.in_ok-first_visit.field-0 (test-at is_built c.deref-session-items.result.now c.loop-session.session-index c.session-item.result (ap (list_all is_built) c.loop-session.invariant.same ∙ c.requires.built) at) here at (subst V c.loop-session.invariant.wire c.in_ok-first_visit.ensures.visited) (c.loop-session.invariant.went rounds));
       stands = ap (list_all is_open_slot) c.push_reserved.ensures.items ∙ test-more is_open_slot c.loop-session.slots.items c.in_ok-first_visit.field-0 c.loop-session.invariant.stands
           (first-open c.session-item.result c.loop-session.wire ((g.O.Tells.outer c.loop-session.outside).events) ((g.O.Tells.outer c.first_visit.new.outside).events) c.loop-session.reactor.core c.first_visit.new.reactor.core c.in_ok-first_visit.field-0 c.in_ok-first_visit.ensures.visited);
       owned = subst O {x = c.loop-session.slots.items ++ c.in_ok-first_visit.field-0 ∷ []} (sym {A = List Slot} c.push_reserved.ensures.items) (owned-first c.loop-session.wire c.loop-session.slots.items (tags c.loop-session.reactor.core.sources) (tags c.first_visit.new.reactor.core.sources) c.in_ok-first_visit.field-0
@@ -88,7 +89,7 @@ returns-clause-went g c = λ rounds.
     subst U c.loop-session.invariant.same (subst W none (c.loop-session.invariant.went rounds))
 
 pub returns-clause-rests : goal.returns-clause-rests
-returns-clause-rests g c = (c.loop-session.invariant.went 0).3.rests
+returns-clause-rests g c = (c.loop-session.invariant.went 0).2.rests
 
 pub returns-in_err-first_visit-clause-timers : goal.returns-in_err-first_visit-clause-timers
 returns-in_err-first_visit-clause-timers g c = first-made c.first_visit.result c.session-item.result c.loop-session.wire _ _ _ _ _ c.first_visit.ensures.visited c.first_visit.ensures.refused ∙ c.loop-session.invariant.timers

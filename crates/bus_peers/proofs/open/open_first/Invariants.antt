@@ -2,7 +2,7 @@ use Rattle.std.proofs.Common.{◌≡◌, ◌≤◌, ◌-◌, ℕ, length, vec_ca
 use Rattle.react_core.specs.Outer.{Keeps}
 use Rattle.react_core.specs.Outer as part
 use Rattle.bus_peers.specs.Faults.{AllCounted}
-use Rattle.bus_peers.specs.Settled.{counting}
+use Rattle.bus_peers.specs.Closing.{counting}
 use Rattle.bus_peers.specs.Shown.{tags}
 use Rattle.bus_peers.specs.Slots.{Owned, AllOpen, Went}
 use Rattle.bus_peers.proofs.open.open_first.Given as goal

@@ -30,7 +30,8 @@ endeds_in-requires-clause-kept g c =
 pub returns-clause-opened : goal.returns-clause-opened
 returns-clause-opened g c =
     answers-opened (λ endeds. endeds.items) c.endeds_in.result c.args.sessions.now.items c.args.rounds ((g.O.Tells.outer c.args.outside.now).events) ((g.O.Tells.outer c.open_rounds-opened.new.outside).events) ((g.O.Tells.outer c.remove_sources-removed.new.registrar).events)
-    c.args.reactor.now.core c.open_rounds-opened.new.reactor c.remove_sources-removed.new.reactor c.open_rounds-opened.new.slots.items c.in_ok-opened.ensures.len c.in_ok-opened.ensures.rested c.remove_sources-removed.ensures.reactor
+    c.args.reactor.now.core c.open_rounds-opened.new.reactor c.remove_sources-removed.new.reactor c.open_rounds-opened.new.slots.items c.requires.built c.in_ok-opened.ensures.len c.open_rounds-opened.ensures.owned
+    c.in_ok-opened.ensures.rested c.remove_sources-removed.ensures.reactor
     c.in_ok-removed.ensures.told c.endeds_in.ensures.ended c.endeds_in.ensures.err
 
 pub returns-in_err-slots-clause-keeps : goal.returns-in_err-slots-clause-keeps

@@ -1,5 +1,6 @@
 use Rattle.std.proofs.Common.{refl, ap}
-use Rattle.bus_session.specs.Dialled.{conversation}
+use Rattle.bus_session.specs.Dialling.{conversation}
+use Rattle.bus_peers.specs.Conversations.{unix_wire}
 use Rattle.bus_peers.proofs.Turns.{on-err}
 use Rattle.bus_peers.proofs.Firsts.{if-ok, refused-by, insert-keeps, inserted-holds, inserted-rests, inserted-keeps, inserted-tags, inserted-registers}
 use Rattle.react_core.specs.Outer.{keeps-same, poller-in-visit}
@@ -25,7 +26,7 @@ returns-clause-visited g c =
     if-ok c.visit.result
     (λ slot stays.
     inserted-registers c.args.reactor.now.core c.insert_io.new.self.core c.args.wire c.in_ok-key.key c.in_ok-key.ensures.free (ap (λ r. r.core) c.in_ok-key.ensures.inserted) c.args.session.now c.args.passes
-    _ _ _ c.visit.new.reactor.core c.in_ok-client.client slot (conversation c.args.session.now.party c.args.passes, refl, c.in_ok-client.ensures.stands) c.in_ok-client.ensures.written c.in_ok-key.ensures.told stays)
+    _ _ _ c.visit.new.reactor.core c.in_ok-client.client slot (conversation c.args.session.now.party (unix_wire c.args.passes), refl, c.in_ok-client.ensures.stands) c.in_ok-client.ensures.written c.in_ok-key.ensures.told stays)
     c.visit.ensures.visited
 
 pub returns-clause-tags : goal.returns-clause-tags

@@ -1,0 +1,148 @@
+-- Laws of the engine over a record in pieces.
+use Rattle.std.specs.Prelude.{◌≡◌, ◌≢◌, ℕ, Bool, true, false, List, [], ◌∷◌, ◌++◌, Some, None}
+use Rattle.react_core.specs.declared.outside.Event.{Event}
+use Rattle.react_core.specs.declared.outside.Event.TheVariants as event
+use Rattle.react_core.specs.declared.outside.Question.{Question}
+use Rattle.react_core.specs.declared.outside.DialAnswer.{DialAnswer}
+use Rattle.react_core.specs.declared.outside.DialAnswer.TheVariants as dial_answer
+use Rattle.bus_session.specs.declared.session.Session.{Session}
+use Rattle.bus_session.specs.declared.ended.Ending.{Ending}
+use Rattle.bus_session.specs.declared.ended.Ending.TheVariants as ending
+use Rattle.bus_session.specs.Parts.{part}
+use Rattle.bus_session.specs.Sessions.{is_built}
+use Rattle.bus_session.specs.Dialling.{Opened, opens, fails}
+use Rattle.bus_session.specs.Alone.{Course, course}
+use Rattle.bus_record.specs.Pieces.{visit, Pieces, ◌▸◌, told}
+use Rattle.bus_record.specs.Places.{key_of, holder}
+use Rattle.bus_record.specs.Visits.{Here, here, conversing, finished, goes_on, was_visited, Visit}
+use Rattle.bus_peers.specs.Registry.{Held, idle, held_at, registry}
+use Rattle.bus_peers.specs.Shows.{StandsAt, Shows, StandsStill}
+use Rattle.bus_peers.specs.Stays.{FirstDial, opened_course, Converses, Concludes, LeavesAsleep}
+
+-- ---- a visit
+
+-- Calls that end with an arming end the visit, where the session has no deadline.
+abbrev pub StaysEndAsleep : Session → Type 0
+StaysEndAsleep s =
+    (wire key : ℕ) (h : Here) (from to : Held) (calls arm : List Event) (begin end : Course) → s.deadline ≡ None →
+    StandsAt h from → from.key ≡ key → from.wire ≡ wire → Converses wire from begin calls to (Some arm) end →
+    goes_on s wire h (Some (conversing key begin)) (calls ++ arm) ≡ Some finished
+
+-- Calls in which the session ends, and the removal of its source, end the visit.
+abbrev pub StaysEndOver : Session → Type 0
+StaysEndOver s =
+    (wire key : ℕ) (h : Here) (from to : Held) (calls : List Event) (begin end : Course) → s.deadline ≡ None →
+    StandsAt h from → Converses wire from begin calls to None end → Concludes begin end →
+    goes_on s wire h (Some (conversing key begin)) (calls ++ event.Delete wire key true ∷ []) ≡ Some finished
+
+-- Behind calls that end with an arming the directions stand as the source has them.
+abbrev pub StaysLeavePlaces : Type 0
+StaysLeavePlaces =
+    (wire : ℕ) (h : Here) (from to : Held) (calls arm : List Event) (begin end : Course) → StandsAt h from →
+    Converses wire from begin calls to (Some arm) end → LeavesAsleep h to (calls ++ arm)
+
+-- A first visit whose dialling fails is its Dial alone.
+abbrev pub FirstVisitsFail : Session → Type 0
+FirstVisitsFail s =
+    (wire : ℕ) (past : Pieces) (question : Question) (answer : DialAnswer) (e : Ending) →
+    FirstDial s wire past question answer (fails e) → Visit s wire past (event.Dial wire question answer ∷ [])
+
+-- A first visit whose dialling opened a wire: the source is added under a free key, and the calls follow.
+abbrev pub FirstVisitsSleep : Session → Type 0
+FirstVisitsSleep s =
+    (wire key : ℕ) (past : Pieces) (question : Question) (answer : DialAnswer) (o : Opened) (to : Held)
+    (calls arm : List Event) (end : Course) → s.deadline ≡ None → FirstDial s wire past question answer (opens o) →
+    holder key past ≡ None → Converses wire (idle wire key) (opened_course s o) calls to (Some arm) end →
+    Visit s wire past (event.Dial wire question answer ∷ (event.Add wire key true ∷ (calls ++ arm)))
+
+abbrev pub FirstVisitsEnd : Session → Type 0
+FirstVisitsEnd s =
+    (wire key : ℕ) (past : Pieces) (question : Question) (answer : DialAnswer) (o : Opened) (to : Held)
+    (calls : List Event) (end : Course) → s.deadline ≡ None → FirstDial s wire past question answer (opens o) →
+    holder key past ≡ None → Converses wire (idle wire key) (opened_course s o) calls to None end →
+    Concludes (opened_course s o) end →
+    Visit s wire past
+    (event.Dial wire question answer ∷ (event.Add wire key true ∷ (calls ++ event.Delete wire key true ∷ [])))
+
+-- A later visit goes on with the conversation as far as it has come.
+abbrev pub LaterVisitsSleep : Session → Type 0
+LaterVisitsSleep s =
+    (wire : ℕ) (past : Pieces) (from to : Held) (calls arm : List Event) (begin end : Course) → s.deadline ≡ None →
+    key_of wire past ≡ Some from.key → from.wire ≡ wire → StandsAt (here wire past) from →
+    course s (part wire (told past)) ≡ Some begin → Converses wire from begin calls to (Some arm) end →
+    Visit s wire past (calls ++ arm)
+
+abbrev pub LaterVisitsEnd : Session → Type 0
+LaterVisitsEnd s =
+    (wire : ℕ) (past : Pieces) (from to : Held) (calls : List Event) (begin end : Course) → s.deadline ≡ None →
+    key_of wire past ≡ Some from.key → StandsAt (here wire past) from →
+    course s (part wire (told past)) ≡ Some begin → Converses wire from begin calls to None end →
+    Concludes begin end → Visit s wire past (calls ++ event.Delete wire from.key true ∷ [])
+
+-- A session that is taken asks one question, and its answer opens the wire or fails.
+pub record DialsOnce (s : Session) (wire : ℕ) (past : Pieces) : Type 0 where
+  pub question : Question
+  pub opened : (passes : Bool) →
+      FirstDial s wire past question (dial_answer.Opened passes)
+      (opens (record { passes = passes; tcp = false; nonce = [] }))
+  pub failed : FirstDial s wire past question dial_answer.Failed (fails ending.Connection)
+
+abbrev pub BuiltDialOnce : Session → Type 0
+BuiltDialOnce s =
+    (wire : ℕ) (past : Pieces) → is_built s ≡ true → was_visited wire past ≡ false → part wire (told past) ≡ [] →
+    DialsOnce s wire past
+
+-- ---- the sources behind a visit
+
+-- the pieces show these sources, and this one under the key
+pub record ShowsHeld (past : Pieces) (sources : List Held) (key : ℕ) (h : Held) : Type 0 where
+  pub shows : Shows past sources
+  pub held : held_at sources key ≡ Some h
+
+-- Behind a Dial alone the sources are those that were there.
+abbrev pub FailedDialShows : Type 0
+FailedDialShows =
+    (wire : ℕ) (past : Pieces) (sources : List Held) (question : Question) (answer : DialAnswer) →
+    Shows past sources → key_of wire past ≡ None →
+    Shows (past ▸ visit wire (event.Dial wire question answer ∷ [])) sources
+
+-- Behind each other visit the sources are those of the registry, folded over its events.
+abbrev pub FirstAsleepShows : Type 0
+FirstAsleepShows =
+    (wire key : ℕ) (past : Pieces) (sources : List Held) (question : Question) (answer : DialAnswer) (to : Held)
+    (calls arm : List Event) (begin end : Course) → Shows past sources → was_visited wire past ≡ false →
+    held_at sources key ≡ None → Converses wire (idle wire key) begin calls to (Some arm) end →
+    ShowsHeld
+    (past ▸ visit wire (event.Dial wire question answer ∷ (event.Add wire key true ∷ (calls ++ arm))))
+    (registry sources (event.Dial wire question answer ∷ (event.Add wire key true ∷ (calls ++ arm)))) key to
+
+abbrev pub FirstOverShows : Type 0
+FirstOverShows =
+    (wire key : ℕ) (past : Pieces) (sources : List Held) (question : Question) (answer : DialAnswer) (to : Held)
+    (calls : List Event) (begin end : Course) → Shows past sources → was_visited wire past ≡ false →
+    held_at sources key ≡ None → Converses wire (idle wire key) begin calls to None end →
+    Shows
+    (past ▸ visit wire (event.Dial wire question answer
+    ∷ (event.Add wire key true ∷ (calls ++ event.Delete wire key true ∷ []))))
+    (registry sources (event.Dial wire question answer
+    ∷ (event.Add wire key true ∷ (calls ++ event.Delete wire key true ∷ []))))
+
+abbrev pub LaterAsleepShows : Type 0
+LaterAsleepShows =
+    (past : Pieces) (sources : List Held) (from to : Held) (calls arm : List Event) (begin end : Course) →
+    Shows past sources → held_at sources from.key ≡ Some from →
+    Converses from.wire from begin calls to (Some arm) end →
+    ShowsHeld (past ▸ visit from.wire (calls ++ arm)) (registry sources (calls ++ arm)) from.key to
+
+abbrev pub LaterOverShows : Type 0
+LaterOverShows =
+    (past : Pieces) (sources : List Held) (from to : Held) (calls : List Event) (begin end : Course) →
+    Shows past sources → held_at sources from.key ≡ Some from → Converses from.wire from begin calls to None end →
+    Shows (past ▸ visit from.wire (calls ++ event.Delete from.wire from.key true ∷ []))
+    (registry sources (calls ++ event.Delete from.wire from.key true ∷ []))
+
+-- A visit leaves the other wires where they stood.
+abbrev pub OthersStandStill : Type 0
+OthersStandStill =
+    (visited wire : ℕ) (past : Pieces) (events : List Event) → visited ≢ wire →
+    StandsStill wire past (past ▸ visit visited events)
