@@ -134,8 +134,8 @@ plays_wait {rooms} a waits told told' keys last timeout answer p given filled re
     let sessions : length (map left a.dials.items) ≡ length keys = grind (arith, common_steps, p.sessions) in
     rw now (plays_on a (record a { waits = waits }) told keys keys last (event.Wait timeout answer) p
     (only_if-true
-      (is_wait_given (length (map left a.dials.items)) told (next_answer (left a.waits)) answer && is_filled rooms (length (map left a.dials.items)) told (next_answer (left a.waits)) answer)
-      (record (rest_of a) { waits = drop 1 (left a.waits) })
+    (is_wait_given (length (map left a.dials.items)) told (next_answer (left a.waits)) answer && is_filled rooms (length (map left a.dials.items)) told (next_answer (left a.waits)) answer)
+    (record (rest_of a) { waits = drop 1 (left a.waits) })
     (rw (sessions, given) filled) ∙ ap (λ (n : List ScriptWait). Some (record (rest_of a) { waits = n })) (sym rest))
     (ap (λ (n : List ScriptWait). record (script_of a) { waits = n }) all)
     p.sources p.sessions)

@@ -60,7 +60,7 @@ played_lent r room told q [] q' is = is
 played_lent r room told None (e ∷ events) q' is = played_lent r room (told ++ e ∷ []) None events q' is
 played_lent r room told (Some q) (e ∷ events) q' is =
     elim (next r told q e) as (λ o. next r told q e ≡ o → played_from r (told ++ e ∷ []) o events ≡ Some q' →
-        played_from (with_room r room) (told ++ e ∷ []) (next (with_room r room) told q e) events ≡ Some q') [
+    played_from (with_room r room) (told ++ e ∷ []) (next (with_room r room) told q e) events ≡ Some q') [
       | None ↦ λ none so.
           let wrong : false ≡ true = sym (ap is_some (played_from-none r (told ++ e ∷ []) events)) ∙ ap is_some so in absurd (true≢false (sym wrong))
       | Some q1 ↦ λ one so. rw (next_lent r room told q q1 e one) (played_lent r room (told ++ e ∷ []) (Some q1) events q' so)

@@ -493,17 +493,7 @@ fn lend(player: &mut Player, room: usize)
 }
 
 /// Waits for reports, which it puts at the front of a slice.
-#[tactic(
-    auto,
-    using(
-        crate::proofs::WaitLemmas::reports_given,
-        crate::proofs::WaitLemmas::reports_exact,
-        crate::proofs::WaitLemmas::filled_none,
-        crate::proofs::WaitLemmas::filled_interrupted,
-        crate::proofs::WaitLemmas::filled_failed,
-        crate::proofs::WaitLemmas::filled_given
-    )
-)]
+#[tactic(auto, using(crate::proofs::WaitLemmas::reports_given, crate::proofs::WaitLemmas::reports_exact, crate::proofs::WaitLemmas::filled_none, crate::proofs::WaitLemmas::filled_interrupted, crate::proofs::WaitLemmas::filled_failed, crate::proofs::WaitLemmas::filled_given))]
 fn wait(
     player: &mut Player,
     alloc: Global,

@@ -5,8 +5,8 @@ ghost use Rattle.std.specs.List.{flat_map};
 ghost use Rattle.bus_script.specs.Printed.{bytes_word, flag_word, ok_word, directions, peer_word, question_words, dial_words, recv_words, send_words, report_word, wait_words, words_text, event_words, ending_word, ended_words, session_lines, event_lines, printed, refusal};
 
 use crate::line::Reason;
-use bus_session::{Ended, Ending};
 use bus_opening::Hexadecimal;
+use bus_session::{Ended, Ending};
 use react_core::outside::{
     Bytes, DialAnswer, Event, OutOfMemory, Peer, Question, RecvAnswer, Report, SendAnswer,
     WaitAnswer,
