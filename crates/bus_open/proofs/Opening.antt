@@ -16,7 +16,8 @@ use Rattle.bus_scene.specs.Lent.{follows-each}
 use Rattle.react_core.specs.Outer.{LentRoom}
 use Rattle.react_core.specs.declared.outside.Rooms.{Rooms}
 use Rattle.react_core.specs.declared.outside.Rooms.TheVariants as rooms
-use Rattle.bus_peers.specs.Headline.{Headline, Opened, Exhausts}
+use Rattle.bus_record.specs.Headline.{Headline}
+use Rattle.bus_peers.specs.Headline.{Opened, Exhausts}
 use Rattle.bus_open.specs.Run.{most_reports, FollowsAnswers, ComesTo, PollerFails, RunsOut, status_of}
 
 none_counted : (faults : ℕ) → counted faults ≡ 0 → faults ≡ 0
@@ -38,8 +39,8 @@ pub comes : (answers : Queues) (sessions : List Session) (rounds : ℕ) (old new
 comes answers sessions rounds old new endeds start told shown none are follows calm opens = record {
   follows = follows;
   faultless = ap faults_of_poller are ∙ none_counted (faults_of_poller told) (calm ∙ ap (λ t. counted (faults_of_poller t)) none);
-  armed = opens.2.armed;
-  headline = subst (λ (r : List Event). Headline sessions rounds opens.2.armed endeds r) (sym (are ∙ (same_Some told (start ++ opens.0) opens.1 ∙ ap (λ t. t ++ opens.0) none))) opens.2.headline;
+  pieces = opens.2.pieces;
+  headline = subst (λ (r : List Event). Headline sessions rounds opens.2.pieces endeds r) (sym (are ∙ (same_Some told (start ++ opens.0) opens.1 ∙ ap (λ t. t ++ opens.0) none))) opens.2.headline;
 }
 
 -- where the poller failed

@@ -13,7 +13,8 @@ use Rattle.bus_scene.specs.Plays.{Follows, HasNoPollerFault, faults_of_poller}
 use Rattle.bus_peers.specs.declared.open.OpenError.{OpenError}
 use Rattle.bus_peers.specs.declared.open.OpenError.TheVariants as open_err
 use Rattle.bus_session.specs.declared.session.Session.{Session}
-use Rattle.bus_peers.specs.Headline.{Headline}
+use Rattle.bus_record.specs.Pieces.{Pieces}
+use Rattle.bus_record.specs.Headline.{Headline}
 use Rattle.bus_script.specs.Printed.{printed}
 use Rattle.bus_check.specs.declared.kind.Kind.{Kind}
 use Rattle.bus_check.specs.Says.{Says}
@@ -38,9 +39,9 @@ FollowsAnswers answers events = Follows (rooms.Each most_reports) answers events
 pub record ComesTo (answers : Queues) (sessions : List Session) (rounds : ℕ) (endeds : List Ended) (events : List Event) : Type 0 where
   pub follows : FollowsAnswers answers events
   pub faultless : faults_of_poller events ≡ 0
-  -- so many interests were begun in the reactor
-  pub armed : ℕ
-  pub headline : Headline sessions rounds armed endeds events
+  -- how the record is cut into visits and rounds
+  pub pieces : Pieces
+  pub headline : Headline sessions rounds pieces endeds events
 
 -- Endings and a record follow from a script.
 pub record FollowFrom (s : Script) (endeds : List Ended) (events : List Event) : Type 0 where

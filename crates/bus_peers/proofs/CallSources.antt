@@ -146,7 +146,7 @@ pub record MovesNothing (events : List Event) : Type 0 where
   pub parts : (w : ℕ) → part w events ≡ []
   pub readings : (last : Option ℕ) → last_reading last events ≡ last
 
-nothing-moves : MovesNothing []
+pub nothing-moves : MovesNothing []
 nothing-moves = record {
   keys = λ k. refl;
   holders = λ k h. refl;

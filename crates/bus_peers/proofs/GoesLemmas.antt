@@ -59,7 +59,7 @@ use Rattle.bus_peers.proofs.Sides.{side-waits}
 use Rattle.bus_peers.proofs.Keeps.{with-here}
 use Rattle.bus_peers.proofs.Readies.{begun-still}
 use Rattle.bus_peers.proofs.OtherWires.{unvisited}
-use Rattle.bus_peers.specs.Laws.{ShowsHeld}
+use Rattle.bus_peers.specs.Shows.{ShowsAsleep}
 use Rattle.bus_peers.proofs.StayShows.{failed-dial-shows, first-asleep-shows, first-over-shows, later-asleep-shows, later-over-shows}
 use Rattle.bus_peers.proofs.WholeVisits.{registered_at, stands-idle, first-question, first-visits-fail, first-visits-sleep, first-visits-end, later-visits-sleep, later-visits-end, stays-leave-places}
 
@@ -281,7 +281,7 @@ module _ (s : Session) (wire key : ℕ) (past : Pieces) (r0 r1 : Option (List Ev
       let conv : Converses wire h begin calls h' (Some arm) end =
       record { called = own; asked = x.asked ∙ ap (λ y. Some (record { held = h'; over = y })) is; through = goes.through paused-so s.party } in
       let told-so : calls ++ arm ≡ v = ap (λ y. calls ++ arms_told y) (sym is) in
-      let G : ℕ → Type 0 = λ w. ShowsHeld (past ▸ visit w (calls ++ arm)) (registry (map shown old.sources) (calls ++ arm)) h.key h' in
+      let G : ℕ → Type 0 = λ w. ShowsAsleep (past ▸ visit w (calls ++ arm)) (registry (map shown old.sources) (calls ++ arm)) w h.key h' in
       let g : G h.wire = later-asleep-shows past (map shown old.sources) h h' calls arm begin end shows (ap (held_at (map shown old.sources)) source.0 ∙ x.was)
           (subst (λ (w : ℕ). Converses w h begin calls h' (Some arm) end) (sym x.wired) conv) in
       let G' : List Event → Type 0 = λ y. Shows (past ▸ visit wire y) (registry (map shown old.sources) y) in

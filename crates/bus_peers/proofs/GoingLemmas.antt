@@ -22,7 +22,7 @@ use Rattle.bus_peers.specs.declared.visiting.Slot.TheVariants as slot
 use Rattle.bus_peers.specs.declared.visiting.Sleeper.{Sleeper}
 use Rattle.bus_peers.specs.Closing.{counting}
 use Rattle.bus_peers.specs.Counts.{waits_in}
-use Rattle.bus_peers.specs.Dues.{is_in}
+use Rattle.bus_peers.specs.Due.{is_in}
 use Rattle.bus_peers.specs.Headline.{after_begun}
 use Rattle.bus_peers.specs.Registry.{Held}
 use Rattle.bus_peers.specs.Shows.{Shows}

@@ -29,4 +29,12 @@ pub mod SlotLemmas
 pub mod ClosingLemmas
 pub mod Sleepers
 pub mod GoingLemmas
+pub mod ReportSides
+pub mod RearmingMoves
+pub mod RisingWires
+pub mod RoundRearms
+pub mod RoundShows
+pub mod RoundDue
+pub mod WholeRounds
+pub mod RoundGoing
 pub mod OpenLemmas

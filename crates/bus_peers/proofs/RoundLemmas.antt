@@ -36,7 +36,8 @@ use Rattle.bus_peers.specs.RoundEvents.{Round, round_told, reading_told}
 use Rattle.bus_peers.specs.Registry.{Held, Side, Idle, Waits, Reported, held_at, registry, arming, waits, told_of, reported_held, after_wait, after_report_held, after_reports_held, rearming, rearming_of, Apart, Distinct, RisesFrom}
 use Rattle.bus_session.specs.Parts.{part}
 use Rattle.bus_peers.specs.Rounds.{WokenBy, Rounded}
-use Rattle.bus_peers.specs.Dues.{is_in, is_due, due_at, round_events}
+use Rattle.bus_peers.specs.Due.{is_in, is_due, due_at}
+use Rattle.bus_peers.specs.Rounds.{round_events}
 use Rattle.bus_peers.specs.Counts.{waits_in}
 use Rattle.bus_peers.specs.Slots.{Told, Refuses, RefusedAt}
 use Rattle.bus_peers.specs.Shown.{shown, side_of, place_side, Sane, SanePlace, SaneTask, SaneSource, AllSane, Rests, tags}

@@ -18,7 +18,7 @@ use Rattle.bus_record.specs.Settled.{AllRest, Numbered, numbered, comes_to}
 use Rattle.bus_record.specs.Headline.{IsEnding}
 use Rattle.bus_peers.specs.declared.visiting.Slot.{Slot}
 use Rattle.bus_peers.specs.declared.visiting.Slot.TheVariants as slot
-use Rattle.bus_peers.specs.Dues.{is_in}
+use Rattle.bus_peers.specs.Due.{is_in}
 use Rattle.bus_peers.specs.Registry.{Held}
 use Rattle.bus_peers.specs.Shows.{Shows}
 use Rattle.bus_peers.specs.Slots.{Talking, Paused, Stands, AllStand, AllBuilt}

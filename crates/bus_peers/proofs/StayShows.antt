@@ -12,12 +12,12 @@ use Rattle.react_core.specs.declared.outside.DialAnswer.{DialAnswer}
 use Rattle.react_core.specs.declared.reactor.Dir.{Dir}
 use Rattle.bus_record.specs.Pieces.{visit, Pieces, ◌▸◌}
 use Rattle.bus_record.specs.Places.{key_of, key_through, holder, holder_through, waits, waits_through, reported}
-use Rattle.bus_record.specs.Places.{reported_through, stays_armed, armed_through}
+use Rattle.bus_record.specs.Places.{reported_through, stays_armed, armed_through, paused, last_stop}
 use Rattle.bus_record.specs.Visits.{Here, here, was_visited}
 use Rattle.bus_peers.specs.Registry.{Held, idle, held_at, registry, with_held, without_held}
 use Rattle.bus_peers.specs.Registry as registry_of
 use Rattle.bus_peers.specs.Calls.{AreCalls}
-use Rattle.bus_peers.specs.Shows.{StandsAt, ShowsSource, KeysRise, Shows}
+use Rattle.bus_peers.specs.Shows.{StandsAt, ShowsSource, KeysRise, Shows, ShowsAsleep}
 use Rattle.bus_peers.specs.Laws.{FailedDialShows, FirstAsleepShows, FirstOverShows, LaterAsleepShows, LaterOverShows}
 use Rattle.bus_peers.specs.Laws.{OthersStandStill}
 use Rattle.bus_peers.proofs.CallSources.{held_through, calls-at, calls-rise, through-other, through-own, through-key}
@@ -55,6 +55,7 @@ pub record Begun (past : Pieces) (wire key : ℕ) (first : List Event) (h : Here
   pub arming : (x : Dir) (rest : List Event) →
       armed_through x (stays_armed x wire past) (first ++ rest) ≡ armed_through x (stays_armed x wire past) rest
   pub armed : (x : Dir) → h.is_waiting x ≡ true → stays_armed x wire past ≡ true
+  pub pausing : (last : Option Dir) (rest : List Event) → last_stop last (first ++ rest) ≡ last_stop last rest
   pub single : (k : ℕ) → key_of wire past ≡ Some k → k ≡ key
   pub free : (held : Held) → held_at sources key ≡ Some held → held.wire ≡ wire
 
@@ -141,14 +142,20 @@ module _ (past : Pieces) (wire key : ℕ) (first : List Event) (h : Here) (from 
       }
 
   pub asleep-shows : (calls arm : List Event) (to : Held) → AreCalls wire calls → Asks from calls to (Some arm) →
-      Shows (past ▸ visit wire (first ++ (calls ++ arm))) (registry begun (calls ++ arm))
+      ShowsAsleep (past ▸ visit wire (first ++ (calls ++ arm))) (registry begun (calls ++ arm)) wire key to
   asleep-shows calls arm to called asked =
-      renewed-shows past wire key (first ++ (calls ++ arm)) sources (registry begun (calls ++ arm)) (Some to)
-      (asleep-renews calls arm to called asked) shows
-
-  pub asleep-held : (calls arm : List Event) (to : Held) → AreCalls wire calls → Asks from calls to (Some arm) →
-      held_at (registry begun (calls ++ arm)) key ≡ Some to
-  asleep-held calls arm to called asked = (asleep-renews calls arm to called asked).at
+      let v : List Event = first ++ (calls ++ arm) in
+      let renews = asleep-renews calls arm to called asked in
+      let leaves = leaves-asleep wire calls h from to arm called b.stands asked in
+      record {
+        shows = renewed-shows past wire key v sources (registry begun (calls ++ arm)) (Some to) renews shows;
+        held = renews.at;
+        wired = to-wire calls to (Some arm) called asked;
+        dir = leaves.dir;
+        stopped = (own-behind wire past v).paused
+            ∙ (b.pausing (paused wire past) (calls ++ arm) ∙ leaves.stop (paused wire past));
+        waiting = leaves.waits;
+      }
 
   -- ---- a visit in which the session ends
 
@@ -211,6 +218,7 @@ begun-first past wire key question answer sources shows none free =
       reported = λ x rest. refl;
       arming = λ x rest. refl;
       armed = λ x up. absurd (both_ways true (sym up ∙ un.waits x) refl);
+      pausing = λ last rest. refl;
       single = λ k keyed. absurd (none-some k (sym un.key ∙ keyed));
       free = λ held at. absurd (none-some held (sym free ∙ at));
     }
@@ -235,6 +243,7 @@ begun-later past from sources shows at =
       reported = λ x rest. refl;
       arming = λ x rest. refl;
       armed = was.armed;
+      pausing = λ last rest. refl;
       single = λ k keyed. same_Some k from.key (sym keyed ∙ was.keyed);
       free = λ held there. ap (λ h. h.wire) (same_Some held from (sym there ∙ at));
     }
@@ -249,13 +258,9 @@ failed-dial-shows wire past sources question answer shows keyless =
 pub first-asleep-shows : FirstAsleepShows
 first-asleep-shows wire key past sources question answer to calls arm begin end shows none free c =
     let dialled : List Event = event.Dial wire question answer ∷ (event.Add wire key true ∷ []) in
-    let h : Here = registered_at wire past key question answer in
-    let b = begun-first past wire key question answer sources shows none free in
-    let begun : List Held = with_held sources (idle wire key) in
-    record {
-      shows = asleep-shows past wire key dialled h (idle wire key) sources begun b shows calls arm to c.called c.asked;
-      held = asleep-held past wire key dialled h (idle wire key) sources begun b shows calls arm to c.called c.asked;
-    }
+    asleep-shows past wire key dialled (registered_at wire past key question answer) (idle wire key) sources
+    (with_held sources (idle wire key)) (begun-first past wire key question answer sources shows none free) shows calls
+    arm to c.called c.asked
 
 pub first-over-shows : FirstOverShows
 first-over-shows wire key past sources question answer to calls begin end shows none free c =
@@ -266,13 +271,8 @@ first-over-shows wire key past sources question answer to calls begin end shows 
 
 pub later-asleep-shows : LaterAsleepShows
 later-asleep-shows past sources from to calls arm begin end shows at c =
-    let b = begun-later past from sources shows at in
-    record {
-      shows = asleep-shows past from.wire from.key [] (here from.wire past) from sources sources b shows calls arm to
-          c.called c.asked;
-      held = asleep-held past from.wire from.key [] (here from.wire past) from sources sources b shows calls arm to
-          c.called c.asked;
-    }
+    asleep-shows past from.wire from.key [] (here from.wire past) from sources sources
+    (begun-later past from sources shows at) shows calls arm to c.called c.asked
 
 pub later-over-shows : LaterOverShows
 later-over-shows past sources from to calls begin end shows at c =

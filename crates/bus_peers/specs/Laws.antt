@@ -1,10 +1,13 @@
 -- Laws of the engine over a record in pieces.
-use Rattle.std.specs.Prelude.{◌≡◌, ◌≢◌, ℕ, Bool, true, false, List, [], ◌∷◌, ◌++◌, Some, None}
+use Rattle.std.specs.Prelude.{◌≡◌, ◌≢◌, ◌⊎◌, ℕ, Bool, true, false, List, [], ◌∷◌, ◌++◌, Some, None, is_some, slice_get}
 use Rattle.react_core.specs.declared.outside.Event.{Event}
 use Rattle.react_core.specs.declared.outside.Event.TheVariants as event
 use Rattle.react_core.specs.declared.outside.Question.{Question}
 use Rattle.react_core.specs.declared.outside.DialAnswer.{DialAnswer}
 use Rattle.react_core.specs.declared.outside.DialAnswer.TheVariants as dial_answer
+use Rattle.react_core.specs.declared.outside.Report.{Report}
+use Rattle.react_core.specs.declared.outside.WaitAnswer.TheVariants as wait_answer
+use Rattle.react_core.specs.Round.{reports_of, is_quiet}
 use Rattle.bus_session.specs.declared.session.Session.{Session}
 use Rattle.bus_session.specs.declared.ended.Ending.{Ending}
 use Rattle.bus_session.specs.declared.ended.Ending.TheVariants as ending
@@ -12,11 +15,14 @@ use Rattle.bus_session.specs.Parts.{part}
 use Rattle.bus_session.specs.Sessions.{is_built}
 use Rattle.bus_session.specs.Dialling.{Opened, opens, fails}
 use Rattle.bus_session.specs.Alone.{Course, course}
-use Rattle.bus_record.specs.Pieces.{visit, Pieces, ◌▸◌, told}
-use Rattle.bus_record.specs.Places.{key_of, holder}
+use Rattle.bus_record.specs.Pieces.{Round, visit, round, Pieces, ◌▸◌, told}
+use Rattle.bus_record.specs.Places.{key_of, holder, sleeps}
 use Rattle.bus_record.specs.Visits.{Here, here, conversing, finished, goes_on, was_visited, Visit}
-use Rattle.bus_peers.specs.Registry.{Held, idle, held_at, registry}
-use Rattle.bus_peers.specs.Shows.{StandsAt, Shows, StandsStill}
+use Rattle.bus_record.specs.Settled.{timeout_at, IsRound, is_woken, due}
+use Rattle.bus_record.specs.Settled as settled
+use Rattle.bus_peers.specs.Due.{due_at, AreDue, NoDeadlines}
+use Rattle.bus_peers.specs.Registry.{after_reports_held, rearming, Held, idle, held_at, registry}
+use Rattle.bus_peers.specs.Shows.{StandsAt, Shows, ShowsAsleep, StandsStill}
 use Rattle.bus_peers.specs.Stays.{FirstDial, opened_course, Converses, Concludes, LeavesAsleep}
 
 -- ---- a visit
@@ -94,11 +100,6 @@ BuiltDialOnce s =
 
 -- ---- the sources behind a visit
 
--- the pieces show these sources, and this one under the key
-pub record ShowsHeld (past : Pieces) (sources : List Held) (key : ℕ) (h : Held) : Type 0 where
-  pub shows : Shows past sources
-  pub held : held_at sources key ≡ Some h
-
 -- Behind a Dial alone the sources are those that were there.
 abbrev pub FailedDialShows : Type 0
 FailedDialShows =
@@ -112,9 +113,9 @@ FirstAsleepShows =
     (wire key : ℕ) (past : Pieces) (sources : List Held) (question : Question) (answer : DialAnswer) (to : Held)
     (calls arm : List Event) (begin end : Course) → Shows past sources → was_visited wire past ≡ false →
     held_at sources key ≡ None → Converses wire (idle wire key) begin calls to (Some arm) end →
-    ShowsHeld
+    ShowsAsleep
     (past ▸ visit wire (event.Dial wire question answer ∷ (event.Add wire key true ∷ (calls ++ arm))))
-    (registry sources (event.Dial wire question answer ∷ (event.Add wire key true ∷ (calls ++ arm)))) key to
+    (registry sources (event.Dial wire question answer ∷ (event.Add wire key true ∷ (calls ++ arm)))) wire key to
 
 abbrev pub FirstOverShows : Type 0
 FirstOverShows =
@@ -132,7 +133,7 @@ LaterAsleepShows =
     (past : Pieces) (sources : List Held) (from to : Held) (calls arm : List Event) (begin end : Course) →
     Shows past sources → held_at sources from.key ≡ Some from →
     Converses from.wire from begin calls to (Some arm) end →
-    ShowsHeld (past ▸ visit from.wire (calls ++ arm)) (registry sources (calls ++ arm)) from.key to
+    ShowsAsleep (past ▸ visit from.wire (calls ++ arm)) (registry sources (calls ++ arm)) from.wire from.key to
 
 abbrev pub LaterOverShows : Type 0
 LaterOverShows =
@@ -146,3 +147,57 @@ abbrev pub OthersStandStill : Type 0
 OthersStandStill =
     (visited wire : ℕ) (past : Pieces) (events : List Event) → visited ≢ wire →
     StandsStill wire past (past ▸ visit visited events)
+
+-- ---- a round
+
+-- The re-arming of a round is the same of the pieces and of the sources.
+abbrev pub RearmingsAreSame : Type 0
+RearmingsAreSame =
+    (past : Pieces) (sources : List Held) (reports : List Report) → Shows past sources →
+    settled.rearming past [] reports ≡ rearming sources reports
+
+-- Behind a round the sources are those after its reports.
+abbrev pub RoundShows : Type 0
+RoundShows =
+    (past : Pieces) (sources : List Held) (r : Round) → Shows past sources →
+    r.rearmed ≡ settled.rearming past [] (reports_of r.answer) →
+    Shows (past ▸ round r) (after_reports_held sources (reports_of r.answer))
+
+-- A round wakes the wires that are due by the sources.
+abbrev pub WokenAreDue : Type 0
+WokenAreDue =
+    (past : Pieces) (sources : List Held) (r : Round) (wire : ℕ) → Shows past sources →
+    is_woken past r wire ≡ due_at sources (reports_of r.answer) wire
+
+-- Where each wire that is due sleeps, the list of those wires is the one that the pieces have.
+abbrev pub DueWiresAreSame : List Session → Type 0
+DueWiresAreSame sessions =
+    (past : Pieces) (sources : List Held) (r : Round) (wires : List ℕ) → NoDeadlines sessions → Shows past sources →
+    ((wire : ℕ) → due_at sources (reports_of r.answer) wire ≡ true →
+    (s : Session) × (slice_get sessions wire ≡ Some s) × (sleeps s wire past ≡ true)) →
+    AreDue sources (reports_of r.answer) wires → wires ≡ due sessions past r
+
+-- Without a deadline a round waits for its reports alone.
+abbrev pub NothingTimesOut : List Session → Type 0
+NothingTimesOut sessions = (past : Pieces) (moment : ℕ) → NoDeadlines sessions → timeout_at sessions past moment ≡ None
+
+-- Without a deadline this is a round.
+abbrev pub RoundsAreRounds : List Session → Type 0
+RoundsAreRounds sessions =
+    (past : Pieces) (sources : List Held) (r : Round) → NoDeadlines sessions → Shows past sources →
+    r.timeout ≡ None → r.answer ≢ wait_answer.Failed → is_some r.second ≡ is_quiet None r.answer →
+    r.rearmed ≡ rearming sources (reports_of r.answer) → IsRound sessions past r
+
+-- A session without a deadline sleeps where its last call paused a direction that waits.
+abbrev pub PausedSleeps : Session → Type 0
+PausedSleeps s =
+    (past : Pieces) (sources : List Held) (wire key : ℕ) (h : Held) → s.deadline ≡ None →
+    ShowsAsleep past sources wire key h → sleeps s wire past ≡ true
+
+-- Behind a round such a session sleeps on, or its wire is due.
+abbrev pub RoundLeavesAsleep : Type 0
+RoundLeavesAsleep =
+    (past : Pieces) (sources : List Held) (r : Round) (wire key : ℕ) (h : Held) →
+    r.rearmed ≡ settled.rearming past [] (reports_of r.answer) → ShowsAsleep past sources wire key h →
+    ((g : Held) × ShowsAsleep (past ▸ round r) (after_reports_held sources (reports_of r.answer)) wire key g)
+    ⊎ (due_at sources (reports_of r.answer) wire ≡ true)

@@ -8,8 +8,8 @@ pub mod Asking
 pub mod Calls
 pub mod Shows
 pub mod Stays
+pub mod Due
 pub mod Laws
-pub mod Dues
 pub mod Closing
 pub mod Shown
 pub mod Visited

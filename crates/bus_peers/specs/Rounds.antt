@@ -15,14 +15,18 @@ use Rattle.bus_peers.specs.declared.visiting.Slot.{Slot}
 use Rattle.bus_peers.specs.declared.visiting.Slot.TheVariants as slot
 use Rattle.bus_peers.specs.declared.open.OpenError.{OpenError}
 use Rattle.bus_peers.specs.declared.open.OpenError.TheVariants as open_err
-use Rattle.bus_peers.specs.RoundEvents.{Round, IsRound}
-use Rattle.bus_peers.specs.Registry.{registry}
-use Rattle.bus_peers.specs.Dues.{AreDue, round_events}
+use Rattle.bus_peers.specs.RoundEvents.{Round, IsRound, round_told}
+use Rattle.bus_peers.specs.Registry.{Held, registry, rearming}
+use Rattle.bus_peers.specs.Due.{AreDue}
 use Rattle.bus_peers.specs.Shown.{Rests, shown, Tags, has_wire}
 
 -- a task stands behind those that were woken before, unless memory ran out
 abbrev pub WokenBy : Woken → ℕ → Woken → Type 0
 WokenBy old task new = new.lost ≡ false → (old.lost ≡ false) × (new.tasks.items ≡ old.tasks.items ++ task ∷ [])
+
+-- a round without a deadline: the clock, the wait, the clock again where nothing came, and the re-arming of what still waits
+abbrev pub round_events : List Held → Round → List Event
+round_events held r = round_told None r ++ rearming held (reports_of r.answer)
 
 -- a round, and the wires that it makes due
 pub record Rounded (before after : Option (List Event)) (old new : Core) (woken : List ℕ) (r : Round) : Type 0 where

@@ -6,7 +6,7 @@ use Rattle.react_core.specs.declared.reactor.Dir.TheVariants.{Read, Write}
 use Rattle.bus_record.specs.Pieces.{Pieces}
 use Rattle.bus_record.specs.Places.{key_of, holder, waits, reported, paused, moment, notified, stays_armed}
 use Rattle.bus_record.specs.Visits.{Here, here, was_visited}
-use Rattle.bus_peers.specs.Registry.{Side, Idle, Waits, Reported, Held, held_at}
+use Rattle.bus_peers.specs.Registry.{Side, Idle, Waits, Reported, Held, held_at, side_held, waits as waits_side}
 
 -- whether a direction waits and whether it was reported, by how it stands
 abbrev pub IsSide : Bool → Bool → Side → Type 0
@@ -38,6 +38,15 @@ pub record Shows (past : Pieces) (sources : List Held) : Type 0 where
   pub free : (key : ℕ) → held_at sources key ≡ None → holder key past ≡ None
   pub keyed : (wire key : ℕ) → key_of wire past ≡ Some key →
       (h : Held) × (held_at sources key ≡ Some h) × (h.wire ≡ wire)
+
+-- The pieces show these sources, and under this key the one of a wire whose last call paused a direction that waits.
+pub record ShowsAsleep (past : Pieces) (sources : List Held) (wire key : ℕ) (h : Held) : Type 0 where
+  pub shows : Shows past sources
+  pub held : held_at sources key ≡ Some h
+  pub wired : h.wire ≡ wire
+  pub dir : Dir
+  pub stopped : paused wire past ≡ Some dir
+  pub waiting : waits_side (side_held dir h) ≡ true
 
 -- the wire stands there as it stood before
 pub record StandsStill (wire : ℕ) (before after : Pieces) : Type 0 where

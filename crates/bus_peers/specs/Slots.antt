@@ -26,7 +26,7 @@ use Rattle.bus_peers.specs.declared.open.OpenError.TheVariants as open_err
 use Rattle.bus_peers.specs.Counts.{waits_in}
 use Rattle.bus_peers.specs.Headline.{after_begun}
 use Rattle.bus_peers.specs.Shows.{Shows}
-use Rattle.bus_peers.specs.Dues.{is_in}
+use Rattle.bus_peers.specs.Due.{is_in}
 use Rattle.bus_peers.specs.Shown.{Rests, shown, Tags, tag_at, has_wire, Single, are_below}
 use Rattle.bus_peers.specs.Visited.{is_awake, stands_at}
 

@@ -10,7 +10,7 @@ ghost use Rattle.bus_peers.specs.Headline.{OpenCounted};
 ghost use Rattle.bus_peers.specs.Rounds.{Rounded, WokenBy, HaveWires, OnExhausted};
 ghost use Rattle.bus_peers.specs.Registry.{RisesFrom};
 ghost use Rattle.bus_peers.specs.declared.open.OpenError.TheVariants as open_err;
-ghost use Rattle.bus_peers.specs.Dues.{is_in};
+ghost use Rattle.bus_peers.specs.Due.{is_in};
 ghost use Rattle.bus_peers.specs.Shown.{Rests, tags, has_wire};
 ghost use Rattle.bus_peers.specs.Slots.{Owned, AllOpen, GoesFrom, GoesRound, GoesRounds, Told, Refuses, Stuck};
 ghost use Rattle.bus_peers.specs.Visited.{VisitCounted};

@@ -8,7 +8,7 @@ use Rattle.react_core.specs.Outer.{keeps-then, round-in-all}
 use Rattle.react_core.specs.Outer as part
 use Rattle.bus_peers.proofs.FrameLemmas.{fell-round, counts-same, counts-then}
 use Rattle.bus_peers.proofs.SlotLemmas.{refuses-more, told-both}
-use Rattle.bus_peers.proofs.GoingLemmas.{going-round, round-told, round-wires}
+use Rattle.bus_peers.proofs.RoundGoing.{going-round, round-told, round-wires}
 use Rattle.bus_peers.proofs.rounds.go_round.Goals as goal
 
 seen : (r0 r1 : Option (List Event)) (old new : Core) (wires woken : List ℕ) → wires ≡ woken → (r : Round) × Rounded r0 r1 old new woken r → (r : Round) × Rounded r0 r1 old new wires r
@@ -19,7 +19,7 @@ visit_woken-requires-clause-registered g c = round-wires ((g.O.Tells.outer c.arg
 
 pub returns-clause-went : goal.returns-clause-went
 returns-clause-went g c =
-    on_ok_weaker c.visit_woken.result (λ went. going-round ((g.O.Tells.outer c.args.outside.now).events) ((g.O.Tells.outer c.round.new.outside).events) ((g.O.Tells.outer c.visit_woken.new.outside).events) c.args.reactor.now.core c.round.new.reactor.core c.visit_woken.new.reactor.core c.args.slots.now.items c.visit_woken.new.slots.items c.as_slice.result.now
+    on_ok_weaker c.visit_woken.result (λ went. going-round ((g.O.Tells.outer c.args.outside.now).events) ((g.O.Tells.outer c.round.new.outside).events) ((g.O.Tells.outer c.visit_woken.new.outside).events) c.args.reactor.now.core c.round.new.reactor.core c.visit_woken.new.reactor.core c.args.slots.now.items c.visit_woken.new.slots.items c.as_slice.result.now c.requires.owned
     (seen ((g.O.Tells.outer c.args.outside.now).events) ((g.O.Tells.outer c.round.new.outside).events) c.args.reactor.now.core c.round.new.reactor.core c.as_slice.result.now c.in_ok-woken.woken.items c.as_slice.ensures.value c.in_ok-woken.ensures.rounded) went) c.visit_woken.ensures.went
 
 pub returns-clause-told : goal.returns-clause-told

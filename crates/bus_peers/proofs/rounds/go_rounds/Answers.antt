@@ -7,7 +7,7 @@ use Rattle.react_core.specs.Outer.{keeps-same, keeps-then}
 use Rattle.react_core.specs.Outer as part
 use Rattle.bus_peers.proofs.FrameLemmas.{fell-all, counts-none, counts-then}
 use Rattle.bus_peers.proofs.SlotLemmas.{refuses-more, told-both}
-use Rattle.bus_peers.proofs.GoingLemmas.{rounds-more, rounds-end, rounds-stuck}
+use Rattle.bus_peers.proofs.RoundGoing.{rounds-more, rounds-end, rounds-stuck}
 use Rattle.bus_peers.proofs.rounds.go_rounds.Goals as goal
 
 asleep : (core : Core) (b : Bool) → (IsIdle core → b ≡ true) → core.hands ≡ None → b ≡ false → core.sources ≢ []
@@ -23,7 +23,7 @@ returns-in_err-go_round-clause-stuck g c =
     let off : c.is_idle.result ≡ false = search rules in
     let here : OnExhausted c.from_residual.result ((c.go_round.new.reactor ≡ c.loop-done.reactor) × ((g.O.Tells.outer c.go_round.new.outside).events ≡ (g.O.Tells.outer c.loop-done.outside).events) × (c.go_round.new.slots.items ≡ c.loop-done.slots.items)) = search rules in
     rounds-stuck c.from_residual.result c.args.rounds c.loop-done.done ((g.O.Tells.outer c.args.outside.now).events) ((g.O.Tells.outer c.loop-done.outside).events) ((g.O.Tells.outer c.go_round.new.outside).events) c.args.reactor.now.core c.loop-done.reactor c.go_round.new.reactor c.args.slots.now.items c.loop-done.slots.items c.go_round.new.slots.items
-    c.loop-done.invariant.len c.loop-done-test.true (asleep c.loop-done.reactor.core c.is_idle.result c.is_idle.ensures.1 c.loop-done.invariant.rests.idle off) c.loop-done.invariant.went here
+    c.loop-done.invariant.len c.loop-done.invariant.owned c.loop-done-test.true (asleep c.loop-done.reactor.core c.is_idle.result c.is_idle.ensures.1 c.loop-done.invariant.rests.idle off) c.loop-done.invariant.went here
 
 pub loop-done-preserved : goal.loop-done-preserved
 loop-done-preserved g c =

@@ -5,7 +5,7 @@ use Rattle.react_core.specs.Outer as part
 use Rattle.bus_peers.specs.Faults.{CountsOn}
 use Rattle.bus_peers.specs.Shown.{Rests, tags}
 use Rattle.bus_peers.specs.Slots.{Owned, AllOpen, Told}
-use Rattle.bus_peers.proofs.GoingLemmas.{GoesOnTo}
+use Rattle.bus_peers.proofs.RoundGoing.{GoesOnTo}
 use Rattle.bus_peers.proofs.rounds.go_rounds.Given as goal
 
 abbrev pub invariant-loop-done : goal.invariant-loop-done

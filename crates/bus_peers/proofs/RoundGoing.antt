@@ -1,0 +1,251 @@
+-- The call under way: a round, the visits of those that it makes due, and all rounds.
+use Rattle.std.proofs.Common.{◌≡◌, ◌≢◌, ◌≤◌, ◌<◌, ◌⊎◌, inl, inr, ℕ, ◌+◌, Bool, true, false, ◌&&◌, ◌||◌, ◌==◌, if◌then◌else◌, List, [], ◌∷◌, ◌++◌, length, take, map, Option, Some, None, Result, Ok, Err, slice_get, refl, sym, ◌∙◌, ap, subst, arith}
+use Rattle.std.specs.List.{list_all}
+use Rattle.std.proofs.lemmas.Bool.{both_ways, eq-eqb, or_left, or_right, or_cases, and_parts, and_from}
+use Rattle.react_core.specs.declared.outside.Event.{Event}
+use Rattle.react_core.specs.declared.outside.Event.TheVariants as event
+use Rattle.react_core.specs.declared.outside.Report.{Report}
+use Rattle.react_core.specs.declared.reactor.Dir.{Dir}
+use Rattle.react_core.specs.declared.reactor.Dir.TheVariants.{Read, Write}
+use Rattle.react_core.specs.Places.{Source}
+use Rattle.react_core.specs.Core.{Core, ReactorState}
+use Rattle.react_core.specs.Round.{reports_of}
+use Rattle.react_core.specs.Told.{told, told-told}
+use Rattle.bus_session.specs.declared.session.Session.{Session}
+use Rattle.bus_session.specs.Parts.{part}
+use Rattle.bus_session.specs.Sessions.{is_built}
+use Rattle.bus_record.specs.Pieces as pieces
+use Rattle.bus_record.specs.Pieces.{Pieces, ◌▸◌, round, rounds_in}
+use Rattle.bus_record.specs.Places.{waits, reports, sleeps}
+use Rattle.bus_record.specs.Settled.{IsRound, rearming, sleepers, due, timeout_at, is_woken, turned}
+use Rattle.bus_peers.specs.declared.open.OpenError.{OpenError}
+use Rattle.bus_peers.specs.declared.open.OpenError.TheVariants as open_err
+use Rattle.bus_peers.specs.declared.visiting.Slot.{Slot}
+use Rattle.bus_peers.specs.declared.visiting.Slot.TheVariants as slot
+use Rattle.bus_peers.specs.Counts.{waits_in}
+use Rattle.bus_peers.specs.Due.{is_in, is_due, due_at, AreDue}
+use Rattle.bus_peers.specs.Rounds.{round_events}
+use Rattle.bus_peers.specs.Registry.{Held, held_at, reported_held, after_report_held, after_reports_held, registry, rearming_of}
+use Rattle.bus_peers.specs.Registry as registry_of
+use Rattle.bus_peers.specs.RoundEvents.{Round, round_told, reading_told}
+use Rattle.bus_peers.specs.Shows.{Shows}
+use Rattle.bus_peers.specs.Shown.{Rests, shown, Tags, tags, has_wire}
+use Rattle.bus_peers.specs.Rounds.{Rounded, HaveWires, OnExhausted}
+use Rattle.bus_peers.specs.Slots.{Owned, AllBuilt, Stands, AllStand, IsNew, Going, Went, GoesFrom, GoesRound, GoesRounds, Rested, Told, Halted, Stuck}
+use Rattle.bus_peers.proofs.Armings.{arming-waits}
+use Rattle.bus_peers.proofs.Talks.{waits_in-append}
+use Rattle.bus_peers.proofs.RoundLemmas.{round-held, round-apart}
+use Rattle.bus_peers.proofs.GoesLemmas.{part-quiet}
+use Rattle.bus_peers.proofs.Standing.{Still, WaitsOn, stands-move, stand-at, stand-move, whole, sleeps-now, all-rest}
+use Rattle.bus_peers.proofs.Sleepers.{sleepers-none, sleepers-some}
+use Rattle.bus_peers.proofs.SlotLemmas.{test-at, asleep-at}
+use Rattle.bus_peers.proofs.RoundRearms.{rearming-same}
+use Rattle.bus_peers.specs.Due.{NoDeadlines}
+use Rattle.bus_peers.proofs.WholeRounds.{rounds-show, woken-are-due, due-wires-are-same, rounds-are-rounds}
+use Rattle.bus_peers.proofs.GoesLemmas.{built-late}
+
+-- ---- a round
+
+none-rearming_of : (o : Option Held) (r : Report) → waits_in (rearming_of o r) ≡ 0
+none-rearming_of None r = refl
+none-rearming_of (Some h) r = arming-waits (reported_held h r)
+
+none-rearming : (held : List Held) (reports : List Report) → waits_in (registry_of.rearming held reports) ≡ 0
+none-rearming held [] = refl
+none-rearming held (r ∷ reports) =
+    waits_in-append (rearming_of (held_at held r.key) r) (registry_of.rearming (after_report_held held r) reports)
+    ∙ omega (arith, none-rearming_of (held_at held r.key) r, none-rearming (after_report_held held r) reports)
+
+one-wait : (r : Round) (second : Option ℕ) → r.second ≡ second → waits_in (round_told None r) ≡ 1
+one-wait r None e = rw e refl
+one-wait r (Some moment) e = rw e refl
+
+pub round-waits : (held : List Held) (r : Round) → waits_in (round_events held r) ≡ 1
+round-waits held r = waits_in-append (round_told None r) (registry_of.rearming held (reports_of r.answer)) ∙ omega (arith, one-wait r r.second refl, none-rearming held (reports_of r.answer))
+
+-- ---- the round as a piece
+
+-- the piece that a round is: no deadline bounds its wait
+abbrev piece_of : Round → List Event → pieces.Round
+piece_of r rearmed = record { first = r.first; timeout = None; answer = r.answer; second = r.second; rearmed = rearmed }
+
+told_by : (r : Round) (rearmed : List Event) (second : Option ℕ) → r.second ≡ second → pieces.events_of (round (piece_of r rearmed)) ≡ round_told None r ++ rearmed
+told_by r rearmed None is = rw is refl
+told_by r rearmed (Some moment) is = rw is refl
+
+round-still : (w : ℕ) (past : Pieces) (r : pieces.Round) → part w (pieces.events_of (round r)) ≡ [] → Still w past (past ▸ round r)
+round-still w past r none = record { key = refl; paused = refl; moment = refl; own = part-quiet w (pieces.told past) (pieces.events_of (round r)) none }
+
+-- a direction that waits still does, or the round has reported it
+waits-or-reported : (x : Dir) (w : ℕ) (past : Pieces) (r : pieces.Round) (b : Bool) → reports x w past r ≡ b → waits x w past ≡ true → (waits x w (past ▸ round r) ≡ true) ⊎ (b ≡ true)
+waits-or-reported x w past r true is up = inr refl
+waits-or-reported x w past r false is up = inl (rw (up, is) refl)
+
+woken-by : (x : Dir) (w : ℕ) (past : Pieces) (r : pieces.Round) → waits x w past ≡ true → reports x w past r ≡ true → is_woken past r w ≡ true
+woken-by Read w past r up is = or_left (waits Read w past && reports Read w past r) (waits Write w past && reports Write w past r) (and_from (waits Read w past) (reports Read w past r) up is)
+woken-by Write w past r up is = or_right (waits Read w past && reports Read w past r) (waits Write w past && reports Write w past r) (and_from (waits Write w past) (reports Write w past r) up is)
+
+shown-some : (sources : List (ℕ × Source)) → sources ≢ [] → (k : ℕ) × (s : Source) × (rest : List (ℕ × Source)) × (sources ≡ (k, s) ∷ rest)
+shown-some [] some = absurd (some refl)
+shown-some ((k, s) ∷ sources) some = (k, s, sources, refl)
+
+first-wire : (sources : List (ℕ × Source)) → sources ≢ [] → (w : ℕ) × (has_wire w (tags sources) ≡ true)
+first-wire [] some = absurd (some refl)
+first-wire (s ∷ sources) some = (s.1.wire, or_left (s.1.wire == s.1.wire) (has_wire s.1.wire (tags sources)) (eq-eqb s.1.wire s.1.wire refl))
+
+-- where a source is left, a session sleeps
+some-sleeper : (sessions : List Session) (slots : List Slot) (past : Pieces) (core : Core) → AllBuilt sessions → length slots ≡ length sessions → Owned slots (tags core.sources) → Shows past (map shown core.sources) →
+    AllStand 0 [] (take (length slots) sessions) slots past → core.sources ≢ [] → sleepers sessions past ≢ []
+some-sleeper sessions slots past core built len owned shows stands some =
+    let w = first-wire core.sources some in
+    let a = asleep-at w.0 slots (tags core.sources) owned w.1 in
+    let A : List Session → Type 0 = λ x. AllStand 0 [] x slots past in
+    sleepers-some 0 w.0 sessions slots past (map shown core.sources) a.0 built shows (subst A (whole sessions slots len) stands) a.1
+
+-- where none is left nobody sleeps
+no-sleeper : (sessions : List Session) (slots : List Slot) (past : Pieces) (core : Core) → length slots ≡ length sessions → Shows past (map shown core.sources) →
+    AllStand 0 [] (take (length slots) sessions) slots past → core.sources ≡ [] → sleepers sessions past ≡ []
+no-sleeper sessions slots past core len shows stands none =
+    let A : List Session → Type 0 = λ x. AllStand 0 [] x slots past in
+    let S : List (ℕ × Source) → Type 0 = λ x. Shows past (map shown x) in
+    sleepers-none 0 sessions slots past (subst S none shows) (subst A (whole sessions slots len) stands)
+
+due-has : (sources : List (ℕ × Source)) (reports : List Report) (w : ℕ) → due_at (map shown sources) reports w ≡ true → has_wire w (tags sources) ≡ true
+due-has [] reports w due = due
+due-has (s ∷ sources) reports w due = has-go (or_cases ((s.1.wire == w) && is_due reports (shown s)) (due_at (map shown sources) reports w) due) (due-has sources reports w) where
+  has-go : (((s.1.wire == w) && is_due reports (shown s)) ≡ true) ⊎ (due_at (map shown sources) reports w ≡ true) → (due_at (map shown sources) reports w ≡ true → has_wire w (tags sources) ≡ true) → has_wire w (tags (s ∷ sources)) ≡ true
+  has-go (inl a) ih = or_left (s.1.wire == w) (has_wire w (tags sources)) (and_parts (s.1.wire == w) (is_due reports (shown s)) a).0
+  has-go (inr a) ih = or_right (s.1.wire == w) (has_wire w (tags sources)) (ih a)
+
+
+-- ---- a round
+
+-- each session that a round makes due sleeps
+due-sleep : (sessions : List Session) (slots : List Slot) (past : Pieces) (core : Core) (reports : List Report) → AllBuilt sessions → length slots ≡ length sessions → Owned slots (tags core.sources) →
+    Shows past (map shown core.sources) → AllStand 0 [] (take (length slots) sessions) slots past → (w : ℕ) → due_at (map shown core.sources) reports w ≡ true →
+    (s : Session) × (slice_get sessions w ≡ Some s) × (sleeps s w past ≡ true)
+due-sleep sessions slots past core reports built len owned shows stands w due =
+    let a = asleep-at w slots (tags core.sources) owned (due-has core.sources reports w due) in
+    let A : List Session → Type 0 = λ x. AllStand 0 [] x slots past in
+    let t = stand-at 0 w w [] sessions slots past (slot.Asleep a.0) (omega arith) a.1 (subst A (whole sessions slots len) stands) in
+    (t.0, t.1, sleeps-now t.0 w past (map shown core.sources) a.0 (test-at is_built sessions w t.0 built t.1) shows t.2)
+
+round-moves : (w : ℕ) (past : Pieces) (p : pieces.Round) (woken : List ℕ) → (is_woken past p w ≡ true → is_in w woken ≡ true) → WaitsOn w [] woken past (past ▸ round p)
+round-moves w past p woken due dir (inr none) = absurd (both_ways (is_in w []) refl none)
+round-moves w past p woken due dir (inl up) = on (reports dir w past p) refl (waits-or-reported dir w past p (reports dir w past p) refl up) where
+  on : (b : Bool) → reports dir w past p ≡ b → (waits dir w (past ▸ round p) ≡ true) ⊎ (b ≡ true) → (waits dir w (past ▸ round p) ≡ true) ⊎ (is_in w woken ≡ true)
+  on b is (inl stays) = inl stays
+  on b is (inr rep) = inr (due (woken-by dir w past p up (is ∙ rep)))
+
+round-more : (sessions : List Session) (rounds n : ℕ) (begin : Core) (before r0 r1 : Option (List Event)) (old new : Core) (slots : List Slot) (woken : List ℕ) (r : Round) (past : Pieces) → AllBuilt sessions →
+    length slots ≡ length sessions → Owned slots (tags old.sources) → n < rounds → old.sources ≢ [] → rounds_in past ≡ n → Going sessions rounds [] begin before r0 old slots past → Rounded r0 r1 old new woken r →
+    Went sessions rounds woken (n + 1) begin before r1 new slots
+round-more sessions rounds n begin before r0 r1 old new slots woken r past built len owned left some count g x =
+    let held : List Held = map shown old.sources in
+    let answered : List Report = reports_of r.answer in
+    let p : pieces.Round = piece_of r (rearming past [] answered) in
+    let after : Pieces = past ▸ round p in
+    let same : pieces.events_of (round p) ≡ round_events held r = told_by r (rearming past [] answered) r.second refl ∙ ap (λ y. round_told None r ++ y) (rearming-same past held answered g.shows) in
+    let quiet : (w : ℕ) → part w (pieces.events_of (round p)) ≡ [] = λ w. ap (part w) same ∙ round-apart w held r in
+    let one : waits_in (pieces.events_of (round p)) ≡ 1 = ap waits_in same ∙ round-waits held r in
+    let late : NoDeadlines sessions = λ i s at. built-late s (test-at is_built sessions i s built at) in
+    let sleep = due-sleep sessions slots past old answered built len owned g.shows g.stands in
+    let due-so : (w : ℕ) → is_woken past p w ≡ true → is_in w woken ≡ true = λ w is. x.due.each w ∙ (sym (woken-are-due past held p w g.shows) ∙ is) in (
+      after,
+      ap (λ k. k + 1) count,
+      record {
+        gained = x.gained ∙ (ap (told r0) (sym same) ∙ (ap (λ y. told y (pieces.events_of (round p))) g.gained ∙ told-told before (pieces.told past) (pieces.events_of (round p))));
+        run = turned past p woken g.run (all-rest sessions slots past held len built g.shows g.stands) (some-sleeper sessions slots past old built len owned g.shows g.stands some) (omega (arith, count, left))
+            (rounds-are-rounds sessions past held p late g.shows refl x.form.1 x.form.0 (rearming-same past held answered g.shows))
+            (due-wires-are-same sessions past held p woken late g.shows sleep x.due);
+        shows = subst (Shows after) (sym (round-held r held) ∙ x.shows) (rounds-show past held p g.shows refl);
+        rests = x.rests;
+        stands = stand-move 0 [] woken (take (length slots) sessions) slots past after
+            (λ t w d low high is. stands-move t w [] woken past after d (round-still w past p (quiet w)) (round-moves w past p woken (due-so w)) is) g.stands;
+        unused = λ w le. record { unvisited = (g.unused w le).unvisited; unheard = part-quiet w (pieces.told past) (pieces.events_of (round p)) (quiet w) ∙ (g.unused w le).unheard };
+        counted = waits_in-append (pieces.told past) (pieces.events_of (round p)) ∙ omega (arith, one, g.counted);
+        ticker = omega (arith, x.ticker, g.ticker);
+        made = x.made ∙ g.made;
+        begun = x.begun ∙ g.begun;
+      },
+    )
+
+round-from : (sessions : List Session) (rounds n : ℕ) (begin : Core) (before r0 r1 : Option (List Event)) (old new : Core) (slots : List Slot) (woken : List ℕ) (r : Round) → AllBuilt sessions →
+    length slots ≡ length sessions → Owned slots (tags old.sources) → n < rounds → old.sources ≢ [] → Rounded r0 r1 old new woken r → Went sessions rounds [] n begin before r0 old slots →
+    Went sessions rounds woken (n + 1) begin before r1 new slots
+round-from sessions rounds n begin before r0 r1 old new slots woken r built len owned left some x (past, count, g) =
+    round-more sessions rounds n begin before r0 r1 old new slots woken r past built len owned left some count g x
+
+-- a round, and then the visits of those that it makes due
+pub going-round : (r0 r1 r2 : Option (List Event)) (old mid new : Core) (slots slots' : List Slot) (woken : List ℕ) → Owned slots (tags old.sources) → (r : Round) × Rounded r0 r1 old mid woken r →
+    GoesFrom woken [] r1 r2 mid new slots slots' → GoesRound r0 r2 old new slots slots'
+going-round r0 r1 r2 old mid new slots slots' woken owned (r, x) visits = λ sessions rounds n begin before built len left some w.
+    visits sessions rounds (n + 1) begin before built (round-from sessions rounds n begin before r0 r1 old mid slots woken r built len owned left some x w)
+
+pub round-told : (r0 r1 : Option (List Event)) (old new : Core) (woken : List ℕ) → (r : Round) × Rounded r0 r1 old new woken r → (m : List Event) × Told r0 r1 old new m
+round-told r0 r1 old new woken (r, x) = (
+  round_events (map shown old.sources) r,
+  record { gained = x.gained; made = x.made; closed = x.rests.idle; ticker = omega (arith, x.ticker, round-waits (map shown old.sources) r) },
+)
+
+have-all : (wires : List ℕ) (ts : Tags) → ((w : ℕ) → is_in w wires ≡ true → has_wire w ts ≡ true) → HaveWires wires ts
+have-all [] ts has = refl
+have-all (v ∷ wires) ts has = and_from (has_wire v ts) (list_all (λ x. has_wire x ts) wires) (has v (or_left (v == v) (is_in v wires) (eq-eqb v v refl)))
+    (have-all wires ts (λ w is. has w (or_right (v == w) (is_in w wires) is)))
+
+-- those that a round makes due are registered
+pub round-wires : (r0 r1 : Option (List Event)) (old new : Core) (woken : List ℕ) → (r : Round) × Rounded r0 r1 old new woken r → tags new.sources ≡ tags old.sources → HaveWires woken (tags new.sources)
+round-wires r0 r1 old new woken (r, x) same =
+    have-all woken (tags new.sources) (λ w is. ap (has_wire w) same ∙ due-has old.sources (reports_of r.answer) w (sym (x.due.each w) ∙ is))
+
+-- ---- all rounds
+
+-- so many rounds came since the first visits
+abbrev pub GoesOnTo : ℕ → ℕ → Option (List Event) → Option (List Event) → Core → Core → List Slot → List Slot → Type 0
+GoesOnTo rounds n r0 r1 old new slots slots' = (sessions : List Session) (begin : Core) (before : Option (List Event)) → AllBuilt sessions → length slots ≡ length sessions →
+    Went sessions rounds [] 0 begin before r0 old slots → Went sessions rounds [] n begin before r1 new slots'
+
+pub rounds-none : (rounds : ℕ) (r : Option (List Event)) (core : Core) (slots : List Slot) → GoesOnTo rounds 0 r r core core slots slots
+rounds-none rounds r core slots = λ sessions begin before built len w. w
+
+pub rounds-more : (rounds n : ℕ) (r0 r1 r2 : Option (List Event)) (old mid new : Core) (slots slots' slots'' : List Slot) → length slots' ≡ length slots → n < rounds → mid.sources ≢ [] →
+    GoesOnTo rounds n r0 r1 old mid slots slots' → GoesRound r1 r2 mid new slots' slots'' → GoesOnTo rounds (n + 1) r0 r2 old new slots slots''
+rounds-more rounds n r0 r1 r2 old mid new slots slots' slots'' same left some went goes = λ sessions begin before built len w.
+    goes sessions rounds n begin before built (same ∙ len) left some (went sessions begin before built len w)
+
+rested : (sessions : List Session) (rounds n : ℕ) (begin : Core) (before after : Option (List Event)) (core : Core) (slots : List Slot) → AllBuilt sessions → length slots ≡ length sessions → (n ≡ rounds) ⊎ (core.sources ≡ []) →
+    Went sessions rounds [] n begin before after core slots → (past : Pieces) × Rested sessions rounds begin before after core slots past
+rested sessions rounds n begin before after core slots built len (inl all) (past, count, g) =
+    (past, record { going = g; rest = all-rest sessions slots past (map shown core.sources) len built g.shows g.stands; spent = inr (count ∙ all) })
+rested sessions rounds n begin before after core slots built len (inr none) (past, count, g) =
+    (past, record { going = g; rest = all-rest sessions slots past (map shown core.sources) len built g.shows g.stands; spent = inl (no-sleeper sessions slots past core len g.shows g.stands none) })
+
+pub rounds-end : (rounds n : ℕ) (r0 r1 : Option (List Event)) (old new : Core) (slots slots' : List Slot) → length slots' ≡ length slots → (n ≡ rounds) ⊎ (new.sources ≡ []) →
+    GoesOnTo rounds n r0 r1 old new slots slots' → GoesRounds rounds r0 r1 old new slots slots'
+rounds-end rounds n r0 r1 old new slots slots' same done went = λ sessions begin before built len w.
+    rested sessions rounds n begin before r1 new slots' built (same ∙ len) done (went sessions begin before built len w)
+
+halted : (sessions : List Session) (rounds n : ℕ) (begin : Core) (before after : Option (List Event)) (core : Core) (slots : List Slot) → AllBuilt sessions → length slots ≡ length sessions → Owned slots (tags core.sources) →
+    n < rounds → core.sources ≢ [] → Went sessions rounds [] n begin before after core slots → (past : Pieces) × Halted sessions rounds begin before after core slots past
+halted sessions rounds n begin before after core slots built len owned left some (past, count, g) = (
+  past,
+  record {
+    going = g;
+    rest = all-rest sessions slots past (map shown core.sources) len built g.shows g.stands;
+    sleeper = some-sleeper sessions slots past core built len owned g.shows g.stands some;
+    left = omega (arith, count, left);
+  },
+)
+
+-- where the round's number ran out, the call stands where it stood
+pub rounds-stuck : {T : Type 0} (result : Result T OpenError) (rounds n : ℕ) (r0 r1 r2 : Option (List Event)) (old : Core) (mid new : ReactorState) (slots slots' slots'' : List Slot) → length slots' ≡ length slots →
+    Owned slots' (tags mid.core.sources) → n < rounds → mid.core.sources ≢ [] → GoesOnTo rounds n r0 r1 old mid.core slots slots' → OnExhausted result ((new ≡ mid) × (r2 ≡ r1) × (slots'' ≡ slots')) →
+    Stuck result rounds r0 r2 old new.core slots slots''
+rounds-stuck (Ok v) rounds n r0 r1 r2 old mid new slots slots' slots'' same owned left some went halts = tt
+rounds-stuck (Err open_err.OutOfMemory) rounds n r0 r1 r2 old mid new slots slots' slots'' same owned left some went halts = tt
+rounds-stuck (Err open_err.Poller) rounds n r0 r1 r2 old mid new slots slots' slots'' same owned left some went halts = tt
+rounds-stuck (Err (open_err.Exhausted counter value)) rounds n r0 r1 r2 old mid new slots slots' slots'' same owned left some went (core, told', still) = λ sessions begin before built len w.
+    let A : ReactorState → Type 0 = λ x. (past : Pieces) × Halted sessions rounds begin before r2 x.core slots'' past in
+    let B : Option (List Event) → Type 0 = λ x. (past : Pieces) × Halted sessions rounds begin before x mid.core slots'' past in
+    let C : List Slot → Type 0 = λ x. (past : Pieces) × Halted sessions rounds begin before r1 mid.core x past in
+    subst A (sym core) (subst B (sym told') (subst C (sym still) (halted sessions rounds n begin before r1 mid.core slots' built (same ∙ len) owned left some (went sessions begin before built len w))))
