@@ -18,12 +18,12 @@ use Rattle.bus_peers.specs.declared.visiting.Slot.{Slot}
 use Rattle.bus_peers.specs.declared.visiting.Slot.TheVariants as slot
 use Rattle.bus_peers.specs.declared.open.OpenError.{OpenError}
 use Rattle.bus_peers.specs.declared.open.OpenError.TheVariants as open_err
-use Rattle.bus_peers.specs.Registry.{Held}
-use Rattle.bus_peers.specs.Closing.{removals_of, closing}
-use Rattle.bus_peers.specs.Shown.{shown, Tags, tags, tag_at, without_tag, has_wire, Single, are_below}
-use Rattle.bus_peers.specs.Visited.{VisitCounted}
-use Rattle.bus_peers.specs.Slots.{Owns, AllOwn, Owned}
-use Rattle.bus_peers.specs.Rounds.{IsHeld, without_slot, removal_of, removal_told, is_kept, EndsIn, AllEnd}
+use Rattle.bus_peers.specs.inside.Registry.{Held}
+use Rattle.bus_peers.specs.inside.Closing.{removals_of, closing}
+use Rattle.bus_peers.specs.inside.Shown.{shown, Tags, tags, tag_at, without_tag, has_wire, Single, are_below}
+use Rattle.bus_peers.specs.inside.Visited.{VisitCounted}
+use Rattle.bus_peers.specs.inside.Slots.{Owns, AllOwn, Owned}
+use Rattle.bus_peers.specs.inside.Rounds.{IsHeld, without_slot, removal_of, removal_told, is_kept, EndsIn, AllEnd}
 use Rattle.bus_peers.specs.Counts.{is_delete}
 use Rattle.bus_peers.proofs.TagLemmas.{tags-without, tag-has_source, tag-source, tag-has_wire, has_wire-without, no_wire-without, tag_at-without, single-without, below-without, below-none, tags-none}
 use Rattle.bus_peers.proofs.SlotLemmas.{owns-at, below-from, no_wire-above}

@@ -13,7 +13,7 @@ use Rattle.react_core.specs.Reports.{Arming, Try, armed_told, armings_by_all, ta
 use Rattle.react_core.specs.Round.{Ran, Course, CourseSteps, Unread, Read, Pause, Unwaited, Waited, Reread, Unreread, is_quiet, pause_reports, pause_told, reports_of}
 use Rattle.react_core.specs.Step.{WokeAll, begun_round, finish_wakes, finished_round}
 use Rattle.react_core.specs.Told.{told, modify_told}
-use Rattle.bus_peers.specs.RoundEvents.{Round, IsRound, reading_told, round_told}
+use Rattle.bus_peers.specs.inside.RoundEvents.{Round, IsRound, reading_told, round_told}
 
 -- the core after a round with these reports
 pub course-core : (old new : Core) (first : ℕ) (pause : Pause) (tasks : List ℕ) → CourseSteps old (Read first pause) tasks new → new ≡ finished_round (begun_round old) (pause_reports pause)

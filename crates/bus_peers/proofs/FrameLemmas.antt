@@ -24,16 +24,17 @@ use Rattle.react_core.specs.declared.outside.Opened.{Opened}
 use Rattle.react_core.specs.declared.outside.OutOfMemory.{OutOfMemory}
 use Rattle.bus_peers.specs.declared.visiting.Slot.{Slot}
 use Rattle.bus_peers.specs.declared.visiting.Slot.TheVariants as slot
-use Rattle.bus_peers.specs.declared.visiting.Turn.{Turn}
-use Rattle.bus_peers.specs.declared.visiting.Turn.TheVariants as turn
+use Rattle.bus_peers.specs.declared.visiting.PollEnd.{PollEnd}
+use Rattle.bus_peers.specs.declared.visiting.PollEnd.TheVariants as poll_end
 use Rattle.bus_opening.specs.Openings.{Opening}
 use Rattle.react_core.specs.declared.outside.Event.{Event}
 use Rattle.bus_session.specs.declared.session.Session.{Session}
-use Rattle.bus_peers.specs.Shown.{Tags}
-use Rattle.bus_peers.specs.Visited.{ending_of, KeepsCall, FirstVisits, undialled, dialled}
-use Rattle.bus_peers.specs.Visited as visited
-use Rattle.bus_peers.specs.Rounds.{EndsIn, AllEnd}
-use Rattle.bus_peers.specs.Faults.{NoneFell, EndingCounted, EndedsCounted, DialCounted, TurnCounted, SlotCounted, AllCounted, CountsOn}
+use Rattle.bus_peers.specs.inside.Shown.{Tags}
+use Rattle.bus_peers.specs.inside.Visited.{ending_of, KeepsCall, FirstVisits, undialled, dialled}
+use Rattle.bus_peers.specs.inside.Visited as visited
+use Rattle.bus_peers.specs.inside.Rounds.{EndsIn, AllEnd}
+use Rattle.bus_peers.specs.Faults.{EndingCounted, EndedsCounted}
+use Rattle.bus_peers.specs.inside.SlotFaults.{NoneFell, DialCounted, PollEndCounted, SlotCounted, AllCounted, CountsOn}
 
 -- ---- a count that rose, over a longer stretch
 
@@ -104,10 +105,10 @@ module _ {Origin : Type 0} where
   ending-within wire ending.TimedOut a b c d low high counted = tt
   ending-within wire ending.Waiting a b c d low high counted = tt
 
-  pub turn-within : (wire : ℕ) (t : Turn) (a b c d : Outer Origin) → Rises wire a b → Rises wire c d → TurnCounted wire t b c → TurnCounted wire t a d
-  turn-within wire (turn.Over e) a b c d low high counted = ending-within wire e a b c d low high counted
-  turn-within wire turn.Again a b c d low high counted = tt
-  turn-within wire turn.Asleep a b c d low high counted = tt
+  pub turn-within : (wire : ℕ) (t : PollEnd) (a b c d : Outer Origin) → Rises wire a b → Rises wire c d → PollEndCounted wire t b c → PollEndCounted wire t a d
+  turn-within wire (poll_end.Over e) a b c d low high counted = ending-within wire e a b c d low high counted
+  turn-within wire poll_end.Again a b c d low high counted = tt
+  turn-within wire poll_end.Asleep a b c d low high counted = tt
 
   pub slot-within : (wire : ℕ) (s : Slot) (a b c d : Outer Origin) → Rises wire a b → Rises wire c d → SlotCounted wire s b c → SlotCounted wire s a d
   slot-within wire (slot.Ended e) a b c d low high counted = ending-within wire e.ending a b c d low high counted
@@ -135,9 +136,9 @@ module _ {Origin : Type 0} where
   over-counted wire v e a b is counted = let C : Ending → Type 0 = λ x. EndingCounted wire x a b in subst C (sym is) (verdict-counted wire v a b counted)
 
   -- a turn that stops has no ending
-  pub stop-counted : (wire : ℕ) (again : Bool) (t : Turn) (a b : Outer Origin) → t ≡ (if again then turn.Again else turn.Asleep) → TurnCounted wire t a b
-  stop-counted wire true t a b is = let C : Turn → Type 0 = λ x. TurnCounted wire x a b in subst C (sym is) tt
-  stop-counted wire false t a b is = let C : Turn → Type 0 = λ x. TurnCounted wire x a b in subst C (sym is) tt
+  pub stop-counted : (wire : ℕ) (again : Bool) (t : PollEnd) (a b : Outer Origin) → t ≡ (if again then poll_end.Again else poll_end.Asleep) → PollEndCounted wire t a b
+  stop-counted wire true t a b is = let C : PollEnd → Type 0 = λ x. PollEndCounted wire x a b in subst C (sym is) tt
+  stop-counted wire false t a b is = let C : PollEnd → Type 0 = λ x. PollEndCounted wire x a b in subst C (sym is) tt
 
   -- one visit's call after others of it
   pub keeps-visit : (wire : ℕ) (a b c : Outer Origin) → Keeps (part.Visit wire) a b → Keeps part.Poller b c → Keeps (part.Visit wire) a c
@@ -249,7 +250,7 @@ pub core-steps-made : {old new : Core} → CoreSteps old new → new.made ≡ ol
 core-steps-made {old} {new} s = steps-made old s.kinds new s.steps
 
 pub visit-made : {E : Type 0} (result : Result Slot E) (wire key : ℕ) (r0 r1 : Option (List Event)) (old new : Core) (c : Opening) (ts : Tags) →
-    IfOk result (λ s. visited.Stays wire key r0 r1 old new c s) → OnErr result (KeepsCall ts r0 r1 old new) → new.made ≡ old.made
+    IfOk result (λ s. visited.MakesRegisteredVisit wire key r0 r1 old new c s) → OnErr result (KeepsCall ts r0 r1 old new) → new.made ≡ old.made
 visit-made (Ok s) wire key r0 r1 old new c ts (h, h', calls, o, x) refused = x.made
 visit-made (Err e) wire key r0 r1 old new c ts visits (more, k) = k.made
 

@@ -8,9 +8,9 @@ use Rattle.std.specs.Option.{option_map}
 use Rattle.react_core.specs.declared.outside.Event.{Event}
 use Rattle.react_core.specs.declared.outside.Report.{Report}
 use Rattle.react_core.specs.declared.reactor.Dir.{Dir}
-use Rattle.bus_peers.specs.Registry.{Held, held_at, with_held, without_held, stopped_held, noted, held_after, registry}
-use Rattle.bus_peers.specs.Registry.{reported_held, after_report_held}
-use Rattle.bus_peers.specs.Shows.{KeysRise}
+use Rattle.bus_peers.specs.inside.Registry.{Held, held_at, with_held, without_held, stopped_held, noted, held_after, registry}
+use Rattle.bus_peers.specs.inside.Registry.{reported_held, after_report_held}
+use Rattle.bus_peers.specs.inside.Shows.{KeysRise}
 use Rattle.bus_peers.proofs.Sides.{stopped-key}
 
 pub registry-append : (held : List Held) (one two : List Event) →
@@ -75,9 +75,11 @@ noted-rise wire x low [] up = tt
 noted-rise wire x low (h ∷ held) up =
     let same : (noted_one wire x h).key ≡ h.key = noted-key wire x h in
     let le : low ≤ h.key = up.0 in
-    let rest : KeysRise (h.key + 1) (noted wire x held) = noted-rise wire x (h.key + 1) held up.1 in
-    (omega (arith, le, same), rise-weaker (h.key + 1) ((noted_one wire x h).key + 1) (noted wire x held)
-        (omega (arith, same)) rest)
+    let rest : KeysRise (h.key + 1) (noted wire x held) = noted-rise wire x (h.key + 1) held up.1 in (
+      omega (arith, le, same),
+      rise-weaker (h.key + 1) ((noted_one wire x h).key + 1) (noted wire x held)
+          (omega (arith, same)) rest,
+    )
 
 -- ---- a source that is added
 

@@ -17,15 +17,15 @@ use Rattle.bus_peers.specs.declared.open.OpenError.TheVariants as open_err
 use Rattle.bus_record.specs.Pieces as pieces
 use Rattle.bus_record.specs.Pieces.{Pieces}
 use Rattle.bus_record.specs.Headline.{IsEnding, Each}
-use Rattle.bus_peers.specs.Registry.{Held}
+use Rattle.bus_peers.specs.inside.Registry.{Held}
 use Rattle.bus_peers.specs.Counts.{is_wait, is_delete, waits_in}
-use Rattle.bus_peers.specs.Closing.{closing}
-use Rattle.bus_peers.specs.Shown.{shown, tags}
+use Rattle.bus_peers.specs.inside.Closing.{closing}
+use Rattle.bus_peers.specs.inside.Shown.{shown, tags}
 use Rattle.bus_peers.specs.Headline.{Opened, RefusedWith, OpenCounted, Completes}
-use Rattle.bus_peers.specs.Rounds.{is_kept, EndsIn, AllEnd}
-use Rattle.bus_peers.specs.Visited.{VisitCounted}
-use Rattle.bus_peers.specs.Slots.{Owned, AllBuilt, Stands, AllStand, Going, Rested, RefusedAt, Halts}
-use Rattle.bus_peers.proofs.Talks.{waits_in-append}
+use Rattle.bus_peers.specs.inside.Rounds.{is_kept, EndsIn, AllEnd}
+use Rattle.bus_peers.specs.inside.Visited.{VisitCounted}
+use Rattle.bus_peers.specs.inside.Slots.{Owned, AllBuilt, Stands, AllStand, CallStands, CallSettled, RefusedAt, Halts}
+use Rattle.bus_peers.proofs.PollInRecord.{waits_in-append}
 use Rattle.bus_peers.proofs.Standing.{whole}
 use Rattle.bus_peers.proofs.Sleepers.{closing-so}
 
@@ -57,7 +57,7 @@ stand-kept n (s ∷ sessions) [] past all = absurd all
 
 -- each session has a slot
 pub rested-kept : (sessions : List Session) (rounds : ℕ) (old : Core) (r0 r1 : Option (List Event)) (core : Core) (slots : List Slot) →
-    (past : Pieces) × Rested sessions rounds old r0 r1 core slots past → list_all is_kept slots ≡ true
+    (past : Pieces) × CallSettled sessions rounds old r0 r1 core slots past → list_all is_kept slots ≡ true
 rested-kept sessions rounds old r0 r1 core slots (past, x) = stand-kept 0 (take (length slots) sessions) slots past x.going.stands
 
 -- a session's ending is what its own part comes to
@@ -106,7 +106,7 @@ emptied r = record r { core = record r.core { sources = [] } }
 
 -- each round that the record shows was begun
 ticks : {sessions : List Session} {rounds : ℕ} {pending : List ℕ} {begin : Core} {r0 r1 : Option (List Event)} {core : Core} {slots : List Slot} {past : Pieces} →
-    Going sessions rounds pending begin r0 r1 core slots past → core.ticker ≡ begin.ticker + waits_in (pieces.told past)
+    CallStands sessions rounds pending begin r0 r1 core slots past → core.ticker ≡ begin.ticker + waits_in (pieces.told past)
 ticks {begin = begin} g = g.ticker ∙ ap (λ n. begin.ticker + n) (sym g.counted)
 
 -- the first visits or the rounds were refused
@@ -119,7 +119,7 @@ answers-refused items result open_err.Poller sessions rounds r0 r1 r2 old mid ne
     answers-err items result open_err.Poller sessions rounds r0 r2 old new.core (more ++ gone) is (after-gone r0 r1 r2 more gone x.gained gained)
     (ticker-gone old.ticker mid.core.ticker new.core.ticker more gone x.ticker (ap (λ y. y.core.ticker) same) all)
 answers-refused items result (open_err.Exhausted c value) sessions rounds r0 r1 r2 old mid new slots is (past, x) (of, at, last, told') same (gone, gained, all) =
-    let g : Going sessions rounds [] old r0 r1 mid.core slots past = x.going in
+    let g : CallStands sessions rounds [] old r0 r1 mid.core slots past = x.going in
     answers-err items result (open_err.Exhausted c value) sessions rounds r0 r2 old new.core (pieces.told past ++ gone) is (after-gone r0 r1 r2 (pieces.told past) gone g.gained gained) (
       of,
       at,
@@ -139,7 +139,7 @@ answers-refused items result (open_err.Exhausted c value) sessions rounds r0 r1 
 
 -- a removal was refused
 pub answers-unremoved : {T : Type 0} (items : T → List Ended) (result : Result T OpenError) (e : OpenError) (sessions : List Session) (rounds : ℕ) (r0 r1 r2 : Option (List Event)) (old : Core) (mid new : ReactorState) (slots : List Slot) (n0 n1 : ℕ) →
-    IsErrAnd result (λ x. x ≡ e) → (past : Pieces) × Rested sessions rounds old r0 r1 mid.core slots past → VisitCounted {T = Unit {0}} (Err e) n0 n1 → new ≡ emptied mid →
+    IsErrAnd result (λ x. x ≡ e) → (past : Pieces) × CallSettled sessions rounds old r0 r1 mid.core slots past → VisitCounted {T = Unit {0}} (Err e) n0 n1 → new ≡ emptied mid →
     (gone : List Event) × (r2 ≡ told r1 gone) × (list_all is_delete gone ≡ true) → Answers items result sessions rounds r0 r2 old new.core
 answers-unremoved items result open_err.OutOfMemory sessions rounds r0 r1 r2 old mid new slots n0 n1 is (past, x) counted same (gone, gained, all) =
     answers-err items result open_err.OutOfMemory sessions rounds r0 r2 old new.core (pieces.told past ++ gone) is (after-gone r0 r1 r2 (pieces.told past) gone x.going.gained gained) tt
@@ -149,10 +149,10 @@ answers-unremoved items result open_err.Poller sessions rounds r0 r1 r2 old mid 
 answers-unremoved items result (open_err.Exhausted c value) sessions rounds r0 r1 r2 old mid new slots n0 n1 is rested counted same removals = absurd counted
 
 opened-all : (sessions : List Session) (rounds : ℕ) (r0 r1 : Option (List Event)) (old : Core) (mid new : ReactorState) (slots : List Slot) (endeds : List Ended) (past : Pieces) → AllBuilt sessions →
-    length slots ≡ length sessions → Owned slots (tags mid.core.sources) → Rested sessions rounds old r0 r1 mid.core slots past → new ≡ emptied mid → AllEnd 0 slots endeds →
+    length slots ≡ length sessions → Owned slots (tags mid.core.sources) → CallSettled sessions rounds old r0 r1 mid.core slots past → new ≡ emptied mid → AllEnd 0 slots endeds →
     Opened sessions rounds old new.core endeds (pieces.told past ++ closing (length slots) 0 (map shown mid.core.sources))
 opened-all sessions rounds r0 r1 old mid new slots endeds past built len owned x same ends =
-    let g : Going sessions rounds [] old r0 r1 mid.core slots past = x.going in
+    let g : CallStands sessions rounds [] old r0 r1 mid.core slots past = x.going in
     let S : List Session → Type 0 = λ y. AllStand 0 [] y slots past in
     let stands : AllStand 0 [] sessions slots past = subst S (whole sessions slots len) g.stands in
     record {
@@ -175,7 +175,7 @@ opened-all sessions rounds r0 r1 old mid new slots endeds past built len owned x
 -- all was done, unless there was no room for the endings
 pub answers-opened : {T : Type 0} (items : T → List Ended) (result : Result T OpenError) (sessions : List Session) (rounds : ℕ) (r0 r1 r2 : Option (List Event)) (old : Core) (mid new : ReactorState) (slots : List Slot) → AllBuilt sessions →
     length slots ≡ length sessions → Owned slots (tags mid.core.sources) →
-    (past : Pieces) × Rested sessions rounds old r0 r1 mid.core slots past → new ≡ emptied mid → r2 ≡ told r1 (closing (length slots) 0 (map shown mid.core.sources)) →
+    (past : Pieces) × CallSettled sessions rounds old r0 r1 mid.core slots past → new ≡ emptied mid → r2 ≡ told r1 (closing (length slots) 0 (map shown mid.core.sources)) →
     IfOk result (λ v. AllEnd 0 slots (items v)) → OnErr result (result ≡ Err open_err.OutOfMemory) → Answers items result sessions rounds r0 r2 old new.core
 answers-opened items (Ok v) sessions rounds r0 r1 r2 old mid new slots built len owned (past, x) same gained ends err =
     let gone : List Event = closing (length slots) 0 (map shown mid.core.sources) in (

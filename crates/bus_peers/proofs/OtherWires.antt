@@ -11,7 +11,7 @@ use Rattle.bus_record.specs.Places.{paused}
 use Rattle.bus_record.specs.Places.{last_stop, moment, last_reading, notified, notified_through, stays_armed}
 use Rattle.bus_record.specs.Places.{armed_through}
 use Rattle.bus_record.specs.Visits.{was_visited}
-use Rattle.bus_peers.specs.Shows.{StandsStill}
+use Rattle.bus_peers.specs.inside.Shows.{StandsStill}
 
 other-else : {A : Type 0} (b : Bool) (x y : A) → b ≡ false → (if b then x else y) ≡ y
 other-else true x y e = absurd (cc)

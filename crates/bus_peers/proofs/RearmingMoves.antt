@@ -18,10 +18,10 @@ use Rattle.bus_record.specs.Places.{named_of, reports, waits}
 use Rattle.bus_record.specs.Places.{reported, keeps_armed, stays_armed, last_reading_by, last_reading}
 use Rattle.bus_record.specs.Visits.{Here, here}
 use Rattle.bus_record.specs.Settled.{arming_of, rearming_of, rearming}
-use Rattle.bus_peers.specs.Registry.{Side, Idle, Waits, Reported, Held, told_of, held_at, side_held, reported_held}
-use Rattle.bus_peers.specs.Registry.{after_report_held, after_reports_held}
-use Rattle.bus_peers.specs.Registry as registry
-use Rattle.bus_peers.specs.Shows.{IsSide, StandsAt, ShowsSource, KeysRise, Shows}
+use Rattle.bus_peers.specs.inside.Registry.{Side, Idle, Waits, Reported, Held, told_of, held_at, side_held, reported_held}
+use Rattle.bus_peers.specs.inside.Registry.{after_report_held, after_reports_held}
+use Rattle.bus_peers.specs.inside.Registry as registry
+use Rattle.bus_peers.specs.inside.Shows.{IsSide, StandsAt, ShowsSource, KeysRise, Shows}
 use Rattle.bus_peers.proofs.CallSources.{MovesNothing, nothing-moves}
 use Rattle.bus_peers.proofs.HeldLists.{if-else, if-then, reported_one, report-at, report-rise, registry-append}
 use Rattle.bus_peers.proofs.RoundRearms.{flag, reported-side, eqb-flip, one-key, one-wire, mapped-none}
@@ -139,7 +139,7 @@ module _ (past : Pieces) (wire key : ℕ) (d : Dir) (waiting : waits d wire past
       armed-of d wire w k (waits Read w past && not (named Read k seen))
       (waits Write w past && not (named Write k seen))
       (ap (λ b. not b || names d (waits Read w past && not (named Read k seen))
-          (waits Write w past && not (named Write k seen))) is)
+      (waits Write w past && not (named Write k seen))) is)
   own-armed seen k w true is holds none =
       let same : w ≡ wire = eqb-true w wire is in
       let keyed : k ≡ key = single k (holds ∙ ap Some same) in

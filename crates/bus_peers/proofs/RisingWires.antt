@@ -7,8 +7,8 @@ use Rattle.std.proofs.lemmas.Option.{none-some, same_Some}
 use Rattle.std.specs.Prelude.{filter, slice_get}
 use Rattle.bus_session.specs.declared.session.Session.{Session}
 use Rattle.bus_record.specs.Settled.{Numbered, numbered}
-use Rattle.bus_peers.specs.Registry.{RisesFrom}
-use Rattle.bus_peers.specs.Due.{is_in}
+use Rattle.bus_peers.specs.inside.Registry.{RisesFrom}
+use Rattle.bus_peers.specs.inside.Due.{is_in}
 use Rattle.bus_peers.proofs.HeldLists.{if-else, if-then}
 
 -- ---- rising lists

@@ -15,10 +15,10 @@ use Rattle.bus_record.specs.Pieces.{Round, Pieces}
 use Rattle.bus_record.specs.Places.{key_of, named, named_of, waits, sleeps}
 use Rattle.bus_record.specs.Visits.{here}
 use Rattle.bus_record.specs.Settled.{Numbered, numbered, sleepers, is_woken, is_late, due, timeout_at, nearest}
-use Rattle.bus_peers.specs.Registry.{Held, held_at, side_held, RisesFrom}
-use Rattle.bus_peers.specs.Registry as registry
-use Rattle.bus_peers.specs.Due.{is_due, due_at, is_in, AreDue, NoDeadlines}
-use Rattle.bus_peers.specs.Shows.{ShowsSource, KeysRise, Shows}
+use Rattle.bus_peers.specs.inside.Registry.{Held, held_at, side_held, RisesFrom}
+use Rattle.bus_peers.specs.inside.Registry as registry
+use Rattle.bus_peers.specs.inside.Due.{is_due, due_at, is_in, AreDue, NoDeadlines}
+use Rattle.bus_peers.specs.inside.Shows.{ShowsSource, KeysRise, Shows}
 use Rattle.bus_peers.proofs.HeldLists.{if-else, if-then, rise-none}
 use Rattle.bus_peers.proofs.Sides.{side-at, side-waits, and_true, and_false}
 
@@ -66,8 +66,8 @@ one_go : (f : Held → Bool) (low : ℕ) (x : Held) (held : List Held) (key : �
 one_go f low x held key h true is up at others ih =
     let same : x.key ≡ key = eqb-true x.key key is in
     let none : list_any f held ≡ false = any-none f (x.key + 1) held up.1 (λ k g there.
-        let le : x.key + 1 ≤ k = later-key (x.key + 1) held k g up.1 there in
-        others k g (omega (arith, le, same)) (later-at low x held k g up there)) in
+    let le : x.key + 1 ≤ k = later-key (x.key + 1) held k g up.1 there in
+    others k g (omega (arith, le, same)) (later-at low x held k g up there)) in
     ap (λ b. f x || b) none ∙ (or-false (f x) ∙ ap f (same_Some x h at))
 one_go f low x held key h false is up at others ih =
     let off : x.key ≢ key = λ e. both_ways (x.key == key) is (eq-eqb x.key key e) in
@@ -79,7 +79,7 @@ any-one : (f : Held → Bool) (low : ℕ) (held : List Held) (key : ℕ) (h : He
 any-one f low [] key h up at others = absurd (none-some h at)
 any-one f low (x ∷ held) key h up at others =
     one_go f low x held key h (x.key == key) refl up at others (λ there. any-one f (x.key + 1) held key h up.1 there
-        (λ k g other later. others k g other (later-at low x held k g up later)))
+    (λ k g other later. others k g other (later-at low x held k g up later)))
 
 -- ---- a wire that is due
 
@@ -135,14 +135,14 @@ module _ (past : Pieces) (sources : List Held) (r : Round) (wire : ℕ) (shows :
       ap (λ k. (waits Read wire past && named_of Read k rs) || (waits Write wire past && named_of Write k rs)) keyless
       ∙ (sym (or-both-false (waits Read wire past) (waits Write wire past))
       ∙ sym (any-none (λ h. (h.wire == wire) && is_due rs h) 0 sources shows.rise
-        (λ k h at. off-wire k h at (λ e. none-some k (sym keyless ∙ e)))))
+      (λ k h at. off-wire k h at (λ e. none-some k (sym keyless ∙ e)))))
   woken_go (Some key) keyed =
       let found = shows.keyed wire key keyed in
       let h : Held = found.0 in
       let was = shows.each key h found.1 in
       let side : (x : Dir) → registry.waits (side_held x h) ≡ waits x wire past =
       λ x. sym (side-waits (waits x h.wire past) ((here h.wire past).was_reported x) (side_held x h)
-          (side-at (here h.wire past) h x was.1.stands)) ∙ ap (λ w. waits x w past) found.2 in
+      (side-at (here h.wire past) h x was.1.stands)) ∙ ap (λ w. waits x w past) found.2 in
       let one : due_at sources rs wire ≡ ((h.wire == wire) && is_due rs h) =
       any-one (λ h. (h.wire == wire) && is_due rs h) 0 sources key h shows.rise found.1
       (λ k g other at. off-wire k g at (λ e. other (same_Some k key (sym e ∙ keyed)))) in

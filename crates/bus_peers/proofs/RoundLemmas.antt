@@ -32,21 +32,21 @@ use Rattle.react_core.specs.Step.{WokeAll, begun_round, finished_round}
 use Rattle.bus_peers.specs.declared.rounds.Woken.{Woken}
 use Rattle.bus_peers.specs.declared.open.OpenError.{OpenError}
 use Rattle.bus_peers.specs.Headline.{open_error}
-use Rattle.bus_peers.specs.RoundEvents.{Round, round_told, reading_told}
-use Rattle.bus_peers.specs.Registry.{Held, Side, Idle, Waits, Reported, held_at, registry, arming, waits, told_of, reported_held, after_wait, after_report_held, after_reports_held, rearming, rearming_of, Apart, Distinct, RisesFrom}
+use Rattle.bus_peers.specs.inside.RoundEvents.{Round, round_told, reading_told}
+use Rattle.bus_peers.specs.inside.Registry.{Held, Side, Idle, Waits, Reported, held_at, registry, arming, waits, told_of, reported_held, after_wait, after_report_held, after_reports_held, rearming, rearming_of, Apart, Distinct, RisesFrom}
 use Rattle.bus_session.specs.Parts.{part}
-use Rattle.bus_peers.specs.Rounds.{WokenBy, Rounded}
-use Rattle.bus_peers.specs.Due.{is_in, is_due, due_at}
-use Rattle.bus_peers.specs.Rounds.{round_events}
+use Rattle.bus_peers.specs.inside.Rounds.{WokenBy, Rounded}
+use Rattle.bus_peers.specs.inside.Due.{is_in, is_due, due_at}
+use Rattle.bus_peers.specs.inside.Rounds.{round_events}
 use Rattle.bus_peers.specs.Counts.{waits_in}
-use Rattle.bus_peers.specs.Slots.{Told, Refuses, RefusedAt}
-use Rattle.bus_peers.specs.Shown.{shown, side_of, place_side, Sane, SanePlace, SaneTask, SaneSource, AllSane, Rests, tags}
+use Rattle.bus_peers.specs.inside.Slots.{Told, Refuses, RefusedAt}
+use Rattle.bus_peers.specs.inside.Shown.{shown, side_of, place_side, Sane, SanePlace, SaneTask, SaneSource, AllSane, IsBetweenCalls, tags}
 use Rattle.bus_peers.proofs.Courses.{Rounds, course-core}
-use Rattle.bus_peers.proofs.Registries.{shown_at, held_at-shown, reported-shown, arming-shown, lone-marked, after_report-shown, after_reports-shown}
-use Rattle.bus_peers.proofs.Readies.{sane-at, sane-with}
+use Rattle.bus_peers.proofs.SourcesAreRegistry.{shown_at, held_at-shown, reported-shown, arming-shown, lone-marked, after_report-shown, after_reports-shown}
+use Rattle.bus_peers.proofs.NotReadyNotes.{sane-at, sane-with}
 use Rattle.bus_peers.proofs.TagLemmas.{tags-after_reports}
-use Rattle.bus_peers.proofs.Armings.{arming-quiet, arming-apart}
-use Rattle.bus_peers.proofs.Talks.{registry-append, part-append, waits_in-append}
+use Rattle.bus_peers.proofs.ArmingFacts.{arming-quiet, arming-apart}
+use Rattle.bus_peers.proofs.PollInRecord.{registry-append, part-append, waits_in-append}
 
 -- ---- each once and in order
 
@@ -379,7 +379,7 @@ woken-all old new (task ∷ tasks) (mid, one, more) kept =
 
 -- the wires of these woken tasks, each once and in order, are those that the round makes due
 pub rounded : (r0 r1 : Option (List Event)) (old new : Core) (before after : Woken) (woken : List ℕ) (r : Round) → Rounds WokenBy None r0 r1 old new before after r →
-    Rests old → sources_of.RisesFrom 0 old.sources → before.tasks.items ≡ [] → (after.lost ≡ false) × RisesFrom 0 woken × ((w : ℕ) → is_in w woken ≡ is_in w after.tasks.items) →
+    IsBetweenCalls old → sources_of.RisesFrom 0 old.sources → before.tasks.items ≡ [] → (after.lost ≡ false) × RisesFrom 0 woken × ((w : ℕ) → is_in w woken ≡ is_in w after.tasks.items) →
     Rounded r0 r1 old new woken r
 rounded r0 r1 old new before after woken r round rests up none ordered =
     let t : ℕ = old.ticker + 1 in

@@ -14,10 +14,10 @@ use Rattle.bus_record.specs.Places.{holder, names, named, waits}
 use Rattle.bus_record.specs.Visits.{here}
 use Rattle.bus_record.specs.Settled.{arming_of}
 use Rattle.bus_record.specs.Settled as settled
-use Rattle.bus_peers.specs.Registry.{Side, Idle, Waits, Reported, Held, told_of, held_at, side_held, reported_held}
-use Rattle.bus_peers.specs.Registry.{after_report_held, arming}
-use Rattle.bus_peers.specs.Registry as registry
-use Rattle.bus_peers.specs.Shows.{Shows}
+use Rattle.bus_peers.specs.inside.Registry.{Side, Idle, Waits, Reported, Held, told_of, held_at, side_held, reported_held}
+use Rattle.bus_peers.specs.inside.Registry.{after_report_held, arming}
+use Rattle.bus_peers.specs.inside.Registry as registry
+use Rattle.bus_peers.specs.inside.Shows.{Shows}
 use Rattle.bus_peers.proofs.HeldLists.{if-else, if-then, reported_one, report-at}
 use Rattle.bus_peers.proofs.Sides.{side-at, side-waits, and_true}
 

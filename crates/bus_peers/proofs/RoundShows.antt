@@ -12,8 +12,8 @@ use Rattle.bus_record.specs.Pieces.{Round, round, Pieces, ◌▸◌}
 use Rattle.bus_record.specs.Places.{key_of, holder, named, named_of, waits, reported, keeps_armed, stays_armed}
 use Rattle.bus_record.specs.Visits.{here}
 use Rattle.bus_record.specs.Settled.{rearming}
-use Rattle.bus_peers.specs.Registry.{Held, held_at, side_held, after_reports_held}
-use Rattle.bus_peers.specs.Shows.{IsSide, StandsAt, ShowsSource, Shows}
+use Rattle.bus_peers.specs.inside.Registry.{Held, held_at, side_held, after_reports_held}
+use Rattle.bus_peers.specs.inside.Shows.{IsSide, StandsAt, ShowsSource, Shows}
 use Rattle.bus_peers.proofs.CallSources.{MovesNothing}
 use Rattle.bus_peers.proofs.Progresses.{map-some}
 use Rattle.bus_peers.proofs.RearmingMoves.{rearming-moves, rearming-armed, round-holder}
@@ -55,7 +55,7 @@ module _ (past : Pieces) (sources : List Held) (r : Round) (shows : Shows past s
   wire-stands : (h : Held) → ShowsSource past h → StandsAt (here h.wire after) (reports_one rs h)
   wire-stands h was = stands-by (here h.wire after) (reports_one rs h) (λ x.
       subst (λ k. IsSide (waits x h.wire past && not (named_of x k rs))
-          (reported x h.wire past || (waits x h.wire past && named_of x k rs)) (side_held x (reports_one rs h)))
+      (reported x h.wire past || (waits x h.wire past && named_of x k rs)) (side_held x (reports_one rs h)))
       (sym was.keyed)
       (reports-side x rs h (waits x h.wire past) (reported x h.wire past) (side-at (here h.wire past) h x was.stands)))
 
@@ -93,9 +93,11 @@ module _ (past : Pieces) (sources : List Held) (r : Round) (shows : Shows past s
   keyed-after : (w k : ℕ) → key_of w past ≡ Some k →
       (g : Held) × (held_at (after_reports_held sources rs) k ≡ Some g) × (g.wire ≡ w)
   keyed-after w k keyed =
-      let found = shows.keyed w k keyed in
-      (reports_one rs found.0, reports-at sources rs k ∙ ap (option_map (reports_one rs)) found.1,
-          reports-wire rs found.0 ∙ found.2)
+      let found = shows.keyed w k keyed in (
+        reports_one rs found.0,
+        reports-at sources rs k ∙ ap (option_map (reports_one rs)) found.1,
+        reports-wire rs found.0 ∙ found.2,
+      )
 
   pub round-shows : Shows after (after_reports_held sources rs)
   round-shows = record {

@@ -6,8 +6,8 @@ use Rattle.react_core.specs.declared.reactor.Dir.{Dir}
 use Rattle.react_core.specs.declared.reactor.Dir.TheVariants.{Read, Write}
 use Rattle.bus_record.specs.Places.{waits_by, reported_by, stop_of, is_dir}
 use Rattle.bus_record.specs.Visits.{Here, here_by}
-use Rattle.bus_peers.specs.Registry.{Side, Idle, Waits, Reported, Held, waits, stopped, side_held, stopped_held}
-use Rattle.bus_peers.specs.Shows.{IsSide, StandsAt}
+use Rattle.bus_peers.specs.inside.Registry.{Side, Idle, Waits, Reported, Held, waits, stopped, side_held, stopped_held}
+use Rattle.bus_peers.specs.inside.Shows.{IsSide, StandsAt}
 use Rattle.bus_peers.proofs.CallFacts.{OfCall}
 
 -- the direction stands in the place as the source has it

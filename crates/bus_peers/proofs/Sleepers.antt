@@ -17,11 +17,11 @@ use Rattle.bus_record.specs.Settled.{Numbered, numbered, sleepers, removal}
 use Rattle.bus_record.specs.Settled as record_of
 use Rattle.bus_peers.specs.declared.visiting.Slot.{Slot}
 use Rattle.bus_peers.specs.declared.visiting.Slot.TheVariants as slot
-use Rattle.bus_peers.specs.Closing.{removals_of, closing}
-use Rattle.bus_peers.specs.Registry.{Held}
-use Rattle.bus_peers.specs.Shows.{Shows}
-use Rattle.bus_peers.specs.Shown.{shown, Tags, tags, Single}
-use Rattle.bus_peers.specs.Slots.{Stands, AllStand, AllBuilt, Owns, AllOwn}
+use Rattle.bus_peers.specs.inside.Closing.{removals_of, closing}
+use Rattle.bus_peers.specs.inside.Registry.{Held}
+use Rattle.bus_peers.specs.inside.Shows.{Shows}
+use Rattle.bus_peers.specs.inside.Shown.{shown, Tags, tags, Single}
+use Rattle.bus_peers.specs.inside.Slots.{Stands, AllStand, AllBuilt, Owns, AllOwn}
 use Rattle.bus_peers.proofs.ClosingLemmas.{removals-none, removals-one}
 use Rattle.bus_peers.proofs.Standing.{sleeps-now}
 

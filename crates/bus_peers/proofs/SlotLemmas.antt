@@ -16,12 +16,12 @@ use Rattle.bus_opening.specs.Openings.{Opening}
 use Rattle.bus_peers.specs.declared.open.OpenError.{OpenError}
 use Rattle.bus_peers.specs.declared.open.OpenError.TheVariants as open_err
 use Rattle.bus_session.specs.declared.session.Session.{Session}
-use Rattle.bus_peers.specs.Registry.{Held, RisesFrom}
-use Rattle.bus_peers.specs.Shown.{shown, Tags, tags, tag_at, without_tag, has_wire, Single, are_below}
-use Rattle.bus_peers.specs.Visited.{tags_after, tail_of, StaysAs, Stays, Registers, FirstTags, FirstVisits, undialled, dialled}
-use Rattle.bus_peers.specs.Rounds.{HaveWires}
-use Rattle.bus_peers.specs.Slots.{Owns, AllOwn, Owned, is_open_slot, Went, GoesFrom, Told, RefusedAt, Refuses}
-use Rattle.bus_peers.proofs.Talks.{waits_in-append}
+use Rattle.bus_peers.specs.inside.Registry.{Held, RisesFrom}
+use Rattle.bus_peers.specs.inside.Shown.{shown, Tags, tags, tag_at, without_tag, has_wire, Single, are_below}
+use Rattle.bus_peers.specs.inside.Visited.{tags_after, tail_of, RegisteredVisitEnds, MakesRegisteredVisit, Registers, FirstTags, FirstVisits, undialled, dialled}
+use Rattle.bus_peers.specs.inside.Rounds.{HaveWires}
+use Rattle.bus_peers.specs.inside.Slots.{Owns, AllOwn, Owned, is_open_slot, CallStandsAfter, VisitsKeepCall, Told, RefusedAt, Refuses}
+use Rattle.bus_peers.proofs.PollInRecord.{waits_in-append}
 use Rattle.bus_peers.proofs.TagLemmas.{has_wire-below, no_wire-without, has_wire-without, other_wire-without, tag_at-without, single-without, below-without, below-weaker}
 
 -- ---- any list and a test
@@ -152,7 +152,7 @@ owned-refused wire key slots ts new d owned at is out =
     subst P (sym is) (subst Q (sym out) (owned-out wire key slots ts slot.Refused owned at (has_wire-without ts key wire owned.single at)))
 
 owned-visited : (wire key : ℕ) (slots : List Slot) (ts : Tags) (b : Opening) (calls : List Event) (o : Option (List Event)) (held : List Held) (h : Held) (c : Slot) → Owned slots ts → tag_at ts key ≡ Some wire →
-    StaysAs wire key b calls o held h c → Owned (slice_set slots wire c) (tags_after key c ts)
+    RegisteredVisitEnds wire key b calls o held h c → Owned (slice_set slots wire c) (tags_after key c ts)
 owned-visited wire key slots ts b calls o held h (slot.Ended e) owned at stays = owned-out wire key slots ts (slot.Ended e) owned at (has_wire-without ts key wire owned.single at)
 owned-visited wire key slots ts b calls o held h (slot.Asleep s) owned at stays =
     let B : ℕ → Type 0 = λ n. are_below n ts ≡ true in
@@ -164,7 +164,7 @@ owned-visited wire key slots ts b calls o held h (slot.Asleep s) owned at stays 
 owned-visited wire key slots ts b calls o held h slot.Refused owned at stays = absurd stays
 
 pub owned-stays : (wire key : ℕ) (r0 r1 : Option (List Event)) (old new : Core) (b : Opening) (slots : List Slot) (c : Slot) → Owned slots (tags old.sources) → tag_at (tags old.sources) key ≡ Some wire →
-    Stays wire key r0 r1 old new b c → Owned (slice_set slots wire c) (tags new.sources)
+    MakesRegisteredVisit wire key r0 r1 old new b c → Owned (slice_set slots wire c) (tags new.sources)
 owned-stays wire key r0 r1 old new b slots c owned at (h, h', calls, o, x) =
     let P : Tags → Type 0 = λ ts. Owned (slice_set slots wire c) ts in
     subst P (sym x.tags) (owned-visited wire key slots (tags old.sources) b calls o (map shown new.sources) h' c owned at x.stays)
@@ -174,11 +174,11 @@ other-wires wire key ts (slot.Ended e) at w ne = other_wire-without ts key wire 
 other-wires wire key ts (slot.Asleep s) at w ne = refl
 other-wires wire key ts slot.Refused at w ne = refl
 
-pub others-stay : (wire key : ℕ) (r0 r1 : Option (List Event)) (old new : Core) (b : Opening) (c : Slot) → tag_at (tags old.sources) key ≡ Some wire → Stays wire key r0 r1 old new b c →
+pub others-stay : (wire key : ℕ) (r0 r1 : Option (List Event)) (old new : Core) (b : Opening) (c : Slot) → tag_at (tags old.sources) key ≡ Some wire → MakesRegisteredVisit wire key r0 r1 old new b c →
     (w : ℕ) → w ≢ wire → has_wire w (tags new.sources) ≡ has_wire w (tags old.sources)
 others-stay wire key r0 r1 old new b c at (h, h', calls, o, x) = λ w ne. ap (has_wire w) x.tags ∙ other-wires wire key (tags old.sources) c at w ne
 
-stays-open : (wire key : ℕ) (b : Opening) (calls : List Event) (o : Option (List Event)) (held : List Held) (h : Held) (c : Slot) → StaysAs wire key b calls o held h c → is_open_slot c ≡ true
+stays-open : (wire key : ℕ) (b : Opening) (calls : List Event) (o : Option (List Event)) (held : List Held) (h : Held) (c : Slot) → RegisteredVisitEnds wire key b calls o held h c → is_open_slot c ≡ true
 stays-open wire key b calls o held h (slot.Ended e) stays = refl
 stays-open wire key b calls o held h (slot.Asleep s) stays = ap not stays.open_
 stays-open wire key b calls o held h slot.Refused stays = refl
@@ -228,7 +228,7 @@ owned-none slots ts none empty =
     let Q : Tags → Type 0 = λ x. Owned [] x in
     subst P (sym none) (subst Q (sym empty) (record { each = tt; below = refl; single = tt }))
 
-pub open-stays : (wire key : ℕ) (r0 r1 : Option (List Event)) (old new : Core) (b : Opening) (c : Slot) → Stays wire key r0 r1 old new b c → is_open_slot c ≡ true
+pub open-stays : (wire key : ℕ) (r0 r1 : Option (List Event)) (old new : Core) (b : Opening) (c : Slot) → MakesRegisteredVisit wire key r0 r1 old new b c → is_open_slot c ≡ true
 open-stays wire key r0 r1 old new b c (h, h', calls, o, x) = stays-open wire key b calls o _ h' c x.stays
 
 registers-open : (s : Session) (wire : ℕ) (passes : Bool) (r0 r1 : Option (List Event)) (old new : Core) (c : Slot) → Registers s wire passes r0 r1 old new c → is_open_slot c ≡ true
@@ -266,7 +266,7 @@ pub refuses-more : {T : Type 0} (result : Result T OpenError) (r0 r1 r2 : Option
 refuses-more (Ok v) r0 r1 r2 old mid new x y = tt
 refuses-more (Err e) r0 r1 r2 old mid new (a, x) y = refused-more e r0 r1 r2 old mid new a x y
 
-pub stays-told : (wire key : ℕ) (r0 r1 : Option (List Event)) (old new : Core) (b : Opening) (c : Slot) → Stays wire key r0 r1 old new b c → (m : List Event) × Told r0 r1 old new m
+pub stays-told : (wire key : ℕ) (r0 r1 : Option (List Event)) (old new : Core) (b : Opening) (c : Slot) → MakesRegisteredVisit wire key r0 r1 old new b c → (m : List Event) × Told r0 r1 old new m
 stays-told wire key r0 r1 old new b c (h, h', calls, o, x) = (
   calls ++ tail_of wire key o c,
   record { gained = x.gained; made = x.made; closed = x.rests.idle; ticker = omega (arith, x.ticker, x.waits) },
@@ -302,11 +302,11 @@ wire-below w n wires rest slots ts next have owned len =
     let less : w < length slots = has_wire-below (length slots) w ts (wires-here w rest ts (subst Q next have)) owned.below in
     omega (arith, less, len)
 
-pub goes-next : (w : ℕ) (all wires rest : List ℕ) (r0 r1 r2 : Option (List Event)) (old mid new : Core) (slots slots' slots'' : List Slot) → wires ≡ w ∷ rest → GoesFrom all wires r0 r1 old mid slots slots' →
-    ((pending : List ℕ) → GoesFrom (w ∷ pending) pending r1 r2 mid new slots' slots'') → GoesFrom all rest r0 r2 old new slots slots''
+pub goes-next : (w : ℕ) (all wires rest : List ℕ) (r0 r1 r2 : Option (List Event)) (old mid new : Core) (slots slots' slots'' : List Slot) → wires ≡ w ∷ rest → VisitsKeepCall all wires r0 r1 old mid slots slots' →
+    ((pending : List ℕ) → VisitsKeepCall (w ∷ pending) pending r1 r2 mid new slots' slots'') → VisitsKeepCall all rest r0 r2 old new slots slots''
 goes-next w all wires rest r0 r1 r2 old mid new slots slots' slots'' next goes visits = λ sessions rounds n begin before built went.
-    let W : List ℕ → Type 0 = λ x. Went sessions rounds x n begin before r1 mid slots' in
+    let W : List ℕ → Type 0 = λ x. CallStandsAfter sessions rounds x n begin before r1 mid slots' in
     visits rest sessions rounds n begin before built (subst W next (goes sessions rounds n begin before built went))
 
-pub goes-all : (all wires : List ℕ) (r0 r1 : Option (List Event)) (old new : Core) (slots slots' : List Slot) → wires ≡ [] → GoesFrom all wires r0 r1 old new slots slots' → GoesFrom all [] r0 r1 old new slots slots'
-goes-all all wires r0 r1 old new slots slots' none goes = let G : List ℕ → Type 0 = λ x. GoesFrom all x r0 r1 old new slots slots' in subst G none goes
+pub goes-all : (all wires : List ℕ) (r0 r1 : Option (List Event)) (old new : Core) (slots slots' : List Slot) → wires ≡ [] → VisitsKeepCall all wires r0 r1 old new slots slots' → VisitsKeepCall all [] r0 r1 old new slots slots'
+goes-all all wires r0 r1 old new slots slots' none goes = let G : List ℕ → Type 0 = λ x. VisitsKeepCall all x r0 r1 old new slots slots' in subst G none goes

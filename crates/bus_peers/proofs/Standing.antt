@@ -18,11 +18,11 @@ use Rattle.bus_record.specs.Settled.{AllRest, Numbered, numbered, comes_to}
 use Rattle.bus_record.specs.Headline.{IsEnding}
 use Rattle.bus_peers.specs.declared.visiting.Slot.{Slot}
 use Rattle.bus_peers.specs.declared.visiting.Slot.TheVariants as slot
-use Rattle.bus_peers.specs.Due.{is_in}
-use Rattle.bus_peers.specs.Registry.{Held}
-use Rattle.bus_peers.specs.Shows.{Shows}
-use Rattle.bus_peers.specs.Slots.{Talking, Paused, Stands, AllStand, AllBuilt}
-use Rattle.bus_peers.proofs.GoesLemmas.{ended-out, awake-ends, built-late}
+use Rattle.bus_peers.specs.inside.Due.{is_in}
+use Rattle.bus_peers.specs.inside.Registry.{Held}
+use Rattle.bus_peers.specs.inside.Shows.{Shows}
+use Rattle.bus_peers.specs.inside.Slots.{Talking, Paused, Stands, AllStand, AllBuilt}
+use Rattle.bus_peers.proofs.VisitsInRecord.{ended-out, awake-ends, built-late}
 
 -- ---- a session that is not visited
 

@@ -13,19 +13,19 @@ use Rattle.react_core.specs.declared.outside.Event.TheVariants as event
 use Rattle.bus_opening.specs.Openings.{Opening}
 use Rattle.bus_session.specs.declared.ended.Ending.{Ending}
 use Rattle.bus_session.specs.declared.ended.Ended.{Ended}
-use Rattle.bus_peers.specs.declared.visiting.Turn.{Turn}
-use Rattle.bus_peers.specs.declared.visiting.Turn.TheVariants as turn
+use Rattle.bus_peers.specs.declared.visiting.PollEnd.{PollEnd}
+use Rattle.bus_peers.specs.declared.visiting.PollEnd.TheVariants as poll_end
 use Rattle.bus_peers.specs.declared.visiting.Slot.TheVariants as slot
-use Rattle.bus_peers.specs.Registry.{Held, held_at, registry, without_held}
+use Rattle.bus_peers.specs.inside.Registry.{Held, held_at, registry, without_held}
 use Rattle.bus_peers.specs.Counts.{waits_in}
-use Rattle.bus_peers.specs.Shown.{Rests, shown, tags, tag_at, without_tag, AllSane, Single}
-use Rattle.bus_peers.specs.Visited.{KeepsCall, Holds, Turns, Stays, arms_told}
-use Rattle.bus_peers.proofs.Talks.{registry-append, waits_in-append}
-use Rattle.bus_peers.proofs.Registries.{without-shown}
-use Rattle.bus_peers.proofs.Readies.{held-source}
-use Rattle.bus_peers.proofs.Keeps.{without-keeps, two-keys}
+use Rattle.bus_peers.specs.inside.Shown.{IsBetweenCalls, shown, tags, tag_at, without_tag, AllSane, Single}
+use Rattle.bus_peers.specs.inside.Visited.{KeepsCall, Holds, VisitPolls, MakesRegisteredVisit, arms_told}
+use Rattle.bus_peers.proofs.PollInRecord.{registry-append, waits_in-append}
+use Rattle.bus_peers.proofs.SourcesAreRegistry.{without-shown}
+use Rattle.bus_peers.proofs.NotReadyNotes.{held-source}
+use Rattle.bus_peers.proofs.OtherWiresStay.{without-keeps, two-keys}
 use Rattle.bus_peers.proofs.TagLemmas.{tags-without, tag-has_source, held-tag, distinct-single, single-distinct, single-without}
-use Rattle.bus_peers.proofs.Turns.{keeps-after}
+use Rattle.bus_peers.proofs.PollInVisit.{keeps-after}
 
 -- ---- a source is taken out
 
@@ -46,7 +46,7 @@ pub sane-without : (r l : ℕ) (sources : List (ℕ × Source)) (key : ℕ) → 
 sane-without r l [] key sane = tt {0}
 sane-without r l (x ∷ sources) key sane = sane_without_go r l x sources key (x.0 == key) refl sane (sane-without r l sources key sane.1)
 
-pub rests-removed : (core : Core) (key : ℕ) → Rests core → Rests (removed core key)
+pub rests-removed : (core : Core) (key : ℕ) → IsBetweenCalls core → IsBetweenCalls (removed core key)
 rests-removed core key rests = record {
   sane = sane-without core.ticker core.ticker core.sources key rests.sane;
   distinct = single-distinct (without core.sources key) (subst Single (sym (tags-without core.sources key)) (single-without (tags core.sources) key (distinct-single core.sources rests.distinct)));
@@ -75,7 +75,7 @@ keeps-removed key r r0 r1 r2 old mid new (first, k) is gone =
       },
     )
 
-pub kept-turns : (wire key : ℕ) (r0 r1 : Option (List Event)) (old mid : Core) (c c' : Opening) (t : Turn) → Turns wire key r0 r1 old mid c c' t → KeepsCall (tags old.sources) r0 r1 old mid
+pub kept-turns : (wire key : ℕ) (r0 r1 : Option (List Event)) (old mid : Core) (c c' : Opening) (t : PollEnd) → VisitPolls wire key r0 r1 old mid c c' t → KeepsCall (tags old.sources) r0 r1 old mid
 kept-turns wire key r0 r1 old mid c c' t (h, h', es, o, a) = (
   es ++ arms_told o,
   record {
@@ -88,13 +88,13 @@ kept-turns wire key r0 r1 old mid c c' t (h, h', es, o, a) = (
   },
 )
 
-pub turns-source : (wire key : ℕ) (r0 r1 : Option (List Event)) (old mid : Core) (c c' : Opening) (t : Turn) → Holds old key wire → Turns wire key r0 r1 old mid c c' t → HasSource mid key
+pub turns-source : (wire key : ℕ) (r0 r1 : Option (List Event)) (old mid : Core) (c c' : Opening) (t : PollEnd) → Holds old key wire → VisitPolls wire key r0 r1 old mid c c' t → HasSource mid key
 turns-source wire key r0 r1 old mid c c' t holds (h, h', es, o, a) = kept-source old mid key wire holds a.tags
 
 -- ---- what a visit comes to
 
-pub stays-asleep : (wire key : ℕ) (r0 r1 : Option (List Event)) (old new : Core) (c c' : Opening) → Turns wire key r0 r1 old new c c' turn.Asleep →
-    Stays wire key r0 r1 old new c (slot.Asleep (record { key = key; client = c' }))
+pub stays-asleep : (wire key : ℕ) (r0 r1 : Option (List Event)) (old new : Core) (c c' : Opening) → VisitPolls wire key r0 r1 old new c c' poll_end.Asleep →
+    MakesRegisteredVisit wire key r0 r1 old new c (slot.Asleep (record { key = key; client = c' }))
 stays-asleep wire key r0 r1 old new c c' (h, h', es, o, a) = (
   h,
   h',
@@ -134,8 +134,8 @@ no-tail : (es : List Event) (o : Option (List Event)) → o ≡ None → waits_i
 no-tail es o e none = ap waits_in (sym (append-nil es)) ∙ (ap (λ x. waits_in (es ++ arms_told x)) (sym e) ∙ none)
 
 stays-over : (wire key : ℕ) (r0 r1 r2 : Option (List Event)) (old mid : Core) (c c' : Opening) (e : Ending) →
-    Turns wire key r0 r1 old mid c c' (turn.Over e) → r2 ≡ told r1 (event.Delete wire key true ∷ []) →
-    Stays wire key r0 r2 old (removed mid key) c (slot.Ended (record { ending = e; written = c'.written; leftover = c'.rest; wire = wire; moment = None }))
+    VisitPolls wire key r0 r1 old mid c c' (poll_end.Over e) → r2 ≡ told r1 (event.Delete wire key true ∷ []) →
+    MakesRegisteredVisit wire key r0 r2 old (removed mid key) c (slot.Ended (record { ending = e; written = c'.written; leftover = c'.rest; wire = wire; moment = None }))
 stays-over wire key r0 r1 r2 old mid c c' e (h, h', es, o, a) gone =
     let tail : List Event = event.Delete wire key true ∷ [] in
     let shows' : map shown (without mid.sources key) ≡ without_held (map shown mid.sources) key = without-shown mid.sources key in (
@@ -165,9 +165,9 @@ stays-over wire key r0 r1 r2 old mid c c' e (h, h', es, o, a) gone =
     )
 
 pub stays-ended : {T : Type 0} (wire key : ℕ) (r0 r1 r2 : Option (List Event)) (old mid new : Core) (c c' : Opening) (e : Ending) (v : T) (ended : Ended) →
-    Turns wire key r0 r1 old mid c c' (turn.Over e) → new ≡ removed mid key → RemoveTold (source_of mid.sources key) key (Ok v) r1 r2 →
-    ended ≡ record { ending = e; written = c'.written; leftover = c'.rest; wire = wire; moment = None } → Stays wire key r0 r2 old new c (slot.Ended ended)
+    VisitPolls wire key r0 r1 old mid c c' (poll_end.Over e) → new ≡ removed mid key → RemoveTold (source_of mid.sources key) key (Ok v) r1 r2 →
+    ended ≡ record { ending = e; written = c'.written; leftover = c'.rest; wire = wire; moment = None } → MakesRegisteredVisit wire key r0 r2 old new c (slot.Ended ended)
 stays-ended wire key r0 r1 r2 old mid new c c' e v ended (h, h', es, o, a) is gone value =
     let gone' : r2 ≡ told r1 (event.Delete wire key true ∷ []) = removed-at wire key mid.sources h' v r1 r2 a.wired' a.now gone in
-    subst (λ x. Stays wire key r0 r2 old x c (slot.Ended ended)) (sym is) (subst (λ x. Stays wire key r0 r2 old (removed mid key) c (slot.Ended x)) (sym value)
+    subst (λ x. MakesRegisteredVisit wire key r0 r2 old x c (slot.Ended ended)) (sym is) (subst (λ x. MakesRegisteredVisit wire key r0 r2 old (removed mid key) c (slot.Ended x)) (sym value)
     (stays-over wire key r0 r1 r2 old mid c c' e (h, h', es, o, a) gone'))

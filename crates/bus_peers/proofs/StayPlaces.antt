@@ -9,10 +9,10 @@ use Rattle.react_core.specs.declared.reactor.Dir.TheVariants.{Read, Write}
 use Rattle.bus_record.specs.Places.{names, waits_by, reported_by, reported_through, waits_through, armed_by}
 use Rattle.bus_record.specs.Places.{is_dir, stop_of, last_stop_by}
 use Rattle.bus_record.specs.Visits.{Here, here_by}
-use Rattle.bus_peers.specs.Registry.{Idle, Waits, Reported, Held, waits, side_held, stopped_held, arming}
-use Rattle.bus_peers.specs.Calls.{AreCalls}
-use Rattle.bus_peers.specs.Shows.{StandsAt}
-use Rattle.bus_peers.specs.Stays.{LeavesAsleep}
+use Rattle.bus_peers.specs.inside.Registry.{Idle, Waits, Reported, Held, waits, side_held, stopped_held, arming}
+use Rattle.bus_peers.specs.inside.Calls.{AreCalls}
+use Rattle.bus_peers.specs.inside.Shows.{StandsAt}
+use Rattle.bus_peers.specs.inside.RegisteredVisits.{LeavesAsleep}
 use Rattle.bus_peers.proofs.CallFacts.{OfCall, of-call}
 use Rattle.bus_peers.proofs.StaySteps.{Asks, Steps, goes, again, arms, rests, steps}
 use Rattle.bus_peers.proofs.Sides.{side-at, side-waits, side-same, stands-on, stands-stopped, stopped-sides}

@@ -14,12 +14,12 @@ use Rattle.bus_record.specs.Pieces.{visit, Pieces, ◌▸◌}
 use Rattle.bus_record.specs.Places.{key_of, key_through, holder, holder_through, waits, waits_through, reported}
 use Rattle.bus_record.specs.Places.{reported_through, stays_armed, armed_through, paused, last_stop}
 use Rattle.bus_record.specs.Visits.{Here, here, was_visited}
-use Rattle.bus_peers.specs.Registry.{Held, idle, held_at, registry, with_held, without_held}
-use Rattle.bus_peers.specs.Registry as registry_of
-use Rattle.bus_peers.specs.Calls.{AreCalls}
-use Rattle.bus_peers.specs.Shows.{StandsAt, ShowsSource, KeysRise, Shows, ShowsAsleep}
-use Rattle.bus_peers.specs.Laws.{FailedDialShows, FirstAsleepShows, FirstOverShows, LaterAsleepShows, LaterOverShows}
-use Rattle.bus_peers.specs.Laws.{OthersStandStill}
+use Rattle.bus_peers.specs.inside.Registry.{Held, idle, held_at, registry, with_held, without_held}
+use Rattle.bus_peers.specs.inside.Registry as registry_of
+use Rattle.bus_peers.specs.inside.Calls.{AreCalls}
+use Rattle.bus_peers.specs.inside.Shows.{StandsAt, ShowsSource, KeysRise, Shows, ShowsAsleep}
+use Rattle.bus_peers.specs.inside.Laws.{FailedDialShows, FirstAsleepShows, FirstOverShows, LaterAsleepShows, LaterOverShows}
+use Rattle.bus_peers.specs.inside.Laws.{OthersStandStill}
 use Rattle.bus_peers.proofs.CallSources.{held_through, calls-at, calls-rise, through-other, through-own, through-key}
 use Rattle.bus_peers.proofs.CallSources.{through-wire, MovesNothing, arm-moves, calls-keys, calls-holders}
 use Rattle.bus_peers.proofs.HeldLists.{registry-append, if-else, if-then, with-rise, with-at, with-others, without-rise}
@@ -80,7 +80,7 @@ module _ (past : Pieces) (wire key : ℕ) (first : List Event) (h : Here) (from 
       calls-at wire calls begun k called
       ∙ (ap (option_map (held_through wire calls)) (b.others k other)
       ∙ map-kept (held_through wire calls) (held_at sources k)
-        (λ x at. through-other wire calls x (other-wire past sources wire key shows b.single k x other at)))
+      (λ x at. through-other wire calls x (other-wire past sources wire key shows b.single k x other at)))
 
   to-key : (calls : List Event) (to : Held) (o : Option (List Event)) → AreCalls wire calls → Asks from calls to o →
       to.key ≡ key

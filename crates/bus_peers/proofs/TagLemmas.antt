@@ -7,8 +7,8 @@ use Rattle.react_core.specs.declared.outside.Report.{Report}
 use Rattle.react_core.specs.Places.{Source}
 use Rattle.react_core.specs.Sources.{source_of, with_source, with_new, without}
 use Rattle.react_core.specs.Reports.{after_report, after_report_of, after_reports, reported}
-use Rattle.bus_peers.specs.Registry.{Held, held_at, Apart, Distinct}
-use Rattle.bus_peers.specs.Shown.{shown, Tags, tags, tag_at, without_tag, has_wire, Single, are_below}
+use Rattle.bus_peers.specs.inside.Registry.{Held, held_at, Apart, Distinct}
+use Rattle.bus_peers.specs.inside.Shown.{shown, Tags, tags, tag_at, without_tag, has_wire, Single, are_below}
 
 below_go : (n wire w : ℕ) (more b : Bool) → (w == wire) ≡ b → ((w == wire) || more) ≡ true → nat_lt w n ≡ true → (more ≡ true → wire < n) → wire < n
 below_go n wire w more true e is low ih = let f : w ≡ wire = eqb-true w wire e in let g : w < n = ltb-true w n low in omega arith

@@ -12,8 +12,8 @@ use Rattle.react_core.specs.declared.reactor.Dir.TheVariants.{Read, Write}
 use Rattle.bus_record.specs.Pieces.{visit, Pieces, ◌▸◌}
 use Rattle.bus_record.specs.Places.{key_of, key_through, holder, holder_through, waits, reported, stays_armed}
 use Rattle.bus_record.specs.Visits.{Here, here}
-use Rattle.bus_peers.specs.Registry.{Held, held_at}
-use Rattle.bus_peers.specs.Shows.{StandsAt, ShowsSource, KeysRise, Shows, StandsStill}
+use Rattle.bus_peers.specs.inside.Registry.{Held, held_at}
+use Rattle.bus_peers.specs.inside.Shows.{StandsAt, ShowsSource, KeysRise, Shows, StandsStill}
 use Rattle.bus_peers.proofs.OtherWires.{others-still}
 use Rattle.bus_peers.proofs.Sides.{side-same, stands-by}
 
@@ -90,10 +90,12 @@ module _ (past : Pieces) (wire key : ℕ) (events : List Event) (sources sources
       (h.key ≡ k) × ShowsSource (past ▸ visit wire events) h
   other-shows k h other at =
       let was = shows.each k h at in
-      let off : wire ≢ h.wire = λ e. other-wire past sources wire key shows renewed.single k h other at (sym e) in
-      (was.0, source-still past (past ▸ visit wire events) h
-          (others-still wire h.wire past events (ne_eqb wire h.wire off))
-          (renewed.holders h.key (λ e. other (sym was.0 ∙ e))) was.1)
+      let off : wire ≢ h.wire = λ e. other-wire past sources wire key shows renewed.single k h other at (sym e) in (
+        was.0,
+        source-still past (past ▸ visit wire events) h
+            (others-still wire h.wire past events (ne_eqb wire h.wire off))
+            (renewed.holders h.key (λ e. other (sym was.0 ∙ e))) was.1,
+      )
 
   each_go : (k : ℕ) (h : Held) (b : Bool) → (k == key) ≡ b → held_at sources' k ≡ Some h →
       (h.key ≡ k) × ShowsSource (past ▸ visit wire events) h
@@ -166,10 +168,12 @@ module _ (past : Pieces) (wire : ℕ) (events : List Event) (sources : List Held
   keyless-shows = record {
     rise = shows.rise;
     each = λ k h at.
-        let was = shows.each k h at in
-        (was.0, source-still past (past ▸ visit wire events) h
-            (others-still wire h.wire past events (ne_eqb wire h.wire (keyless-other k h at)))
-            (holders h.key (holder h.key past)) was.1);
+        let was = shows.each k h at in (
+          was.0,
+          source-still past (past ▸ visit wire events) h
+              (others-still wire h.wire past events (ne_eqb wire h.wire (keyless-other k h at)))
+              (holders h.key (holder h.key past)) was.1,
+        );
     free = λ k none. holders k (holder k past) ∙ shows.free k none;
     keyed = λ w k keyed. keyless_go w k (wire == w) refl keyed;
   }

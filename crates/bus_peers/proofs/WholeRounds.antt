@@ -19,12 +19,12 @@ use Rattle.bus_record.specs.Places.{deadline_at, sleeps, sleeps_in, last_reading
 use Rattle.bus_record.specs.Visits.{here}
 use Rattle.bus_record.specs.Settled.{Numbered, numbered, sleepers, is_woken, is_late, due, timeout_at, nearest, IsRound}
 use Rattle.bus_record.specs.Settled as settled
-use Rattle.bus_peers.specs.Registry.{Held, held_at, side_held, after_reports_held, rearming}
-use Rattle.bus_peers.specs.Registry as registry
-use Rattle.bus_peers.specs.Due.{due_at, is_in, AreDue, NoDeadlines}
-use Rattle.bus_peers.specs.Shows.{Shows, ShowsAsleep}
-use Rattle.bus_peers.specs.Laws.{RearmingsAreSame, RoundShows, WokenAreDue, DueWiresAreSame, NothingTimesOut}
-use Rattle.bus_peers.specs.Laws.{RoundsAreRounds, PausedSleeps, RoundLeavesAsleep}
+use Rattle.bus_peers.specs.inside.Registry.{Held, held_at, side_held, after_reports_held, rearming}
+use Rattle.bus_peers.specs.inside.Registry as registry
+use Rattle.bus_peers.specs.inside.Due.{due_at, is_in, AreDue, NoDeadlines}
+use Rattle.bus_peers.specs.inside.Shows.{Shows, ShowsAsleep}
+use Rattle.bus_peers.specs.inside.Laws.{RearmingsAreSame, RoundShows, WokenAreDue, DueWiresAreSame, NothingTimesOut}
+use Rattle.bus_peers.specs.inside.Laws.{RoundsAreRounds, PausedSleeps, RoundLeavesAsleep}
 use Rattle.bus_peers.proofs.ReportSides.{reports_one, reports-at, reports-wire}
 use Rattle.bus_peers.proofs.RisingWires.{rising-same, wires_of, wires-rise, wire-in, no-wire-in, filter-both}
 use Rattle.bus_peers.proofs.RoundDue.{woken-due}
@@ -204,17 +204,20 @@ on_or_due past sources r wire key h false rearmed a is =
     let up : waits a.dir wire (past ▸ round r) ≡ true =
     and_from (waits a.dir wire past) (not (reports a.dir wire past r)) (asleep-waits past sources wire key h a)
     (ap not is) in
-    inl (g, record {
-      shows = now;
-      held = at;
-      wired = wired;
-      dir = a.dir;
-      stopped = a.stopped;
-      waiting = sym (side-waits (waits a.dir g.wire (past ▸ round r))
-          ((here g.wire (past ▸ round r)).was_reported a.dir) (side_held a.dir g)
-          (side-at (here g.wire (past ▸ round r)) g a.dir (now.each key g at).1.stands))
-          ∙ (ap (λ w. waits a.dir w (past ▸ round r)) wired ∙ up);
-    })
+    inl (
+      g,
+      record {
+        shows = now;
+        held = at;
+        wired = wired;
+        dir = a.dir;
+        stopped = a.stopped;
+        waiting = sym (side-waits (waits a.dir g.wire (past ▸ round r))
+            ((here g.wire (past ▸ round r)).was_reported a.dir) (side_held a.dir g)
+            (side-at (here g.wire (past ▸ round r)) g a.dir (now.each key g at).1.stands))
+            ∙ (ap (λ w. waits a.dir w (past ▸ round r)) wired ∙ up);
+      },
+    )
 
 pub round-leaves-asleep : RoundLeavesAsleep
 round-leaves-asleep past sources r wire key h rearmed a =

@@ -26,11 +26,11 @@ use Rattle.bus_record.specs.Pieces.{Pieces, told}
 use Rattle.bus_record.specs.Places.{key_of, holder}
 use Rattle.bus_record.specs.Visits.{Here, here, here_by, registering, conversing, goes_on, after_dial, starts}
 use Rattle.bus_record.specs.Visits.{starts_at, was_visited, Visit}
-use Rattle.bus_peers.specs.Registry.{idle}
-use Rattle.bus_peers.specs.Shows.{StandsAt}
-use Rattle.bus_peers.specs.Stays.{FirstDial, opened_course}
-use Rattle.bus_peers.specs.Laws.{StaysEndAsleep, StaysEndOver, StaysLeavePlaces, FirstVisitsFail, FirstVisitsSleep}
-use Rattle.bus_peers.specs.Laws.{FirstVisitsEnd, LaterVisitsSleep, LaterVisitsEnd, DialsOnce, BuiltDialOnce}
+use Rattle.bus_peers.specs.inside.Registry.{idle}
+use Rattle.bus_peers.specs.inside.Shows.{StandsAt}
+use Rattle.bus_peers.specs.inside.RegisteredVisits.{FirstDial, opened_course}
+use Rattle.bus_peers.specs.inside.Laws.{StaysEndAsleep, StaysEndOver, StaysLeavePlaces, FirstVisitsFail, FirstVisitsSleep}
+use Rattle.bus_peers.specs.inside.Laws.{FirstVisitsEnd, LaterVisitsSleep, LaterVisitsEnd, DialsOnce, BuiltDialOnce}
 use Rattle.bus_peers.proofs.OtherWires.{Unvisited, unvisited, visited-keyed}
 use Rattle.bus_peers.proofs.StayPlaces.{leaves-asleep}
 use Rattle.bus_peers.proofs.StayVisits.{Ends, falls-asleep, ends-stay}

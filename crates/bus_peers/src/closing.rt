@@ -8,11 +8,11 @@ ghost use Rattle.react_core.specs.Outer as part;
 ghost use Rattle.react_core.specs.Told.{told};
 ghost use Rattle.bus_peers.specs.declared.open.OpenError.TheVariants as open_err;
 ghost use Rattle.bus_peers.specs.Counts.{is_delete};
-ghost use Rattle.bus_peers.specs.Rounds.{is_kept, AllEnd, EndsIn, IsHeld, without_slot, removal_told};
-ghost use Rattle.bus_peers.specs.Closing.{closing};
-ghost use Rattle.bus_peers.specs.Shown.{shown, tags};
-ghost use Rattle.bus_peers.specs.Slots.{Owned};
-ghost use Rattle.bus_peers.specs.Visited.{VisitCounted};
+ghost use Rattle.bus_peers.specs.inside.Rounds.{is_kept, AllEnd, EndsIn, IsHeld, without_slot, removal_told};
+ghost use Rattle.bus_peers.specs.inside.Closing.{closing};
+ghost use Rattle.bus_peers.specs.inside.Shown.{shown, tags};
+ghost use Rattle.bus_peers.specs.inside.Slots.{Owned};
+ghost use Rattle.bus_peers.specs.inside.Visited.{VisitCounted};
 
 use crate::open::OpenError;
 use crate::visiting::{Slot, ended_of};

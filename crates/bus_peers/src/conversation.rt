@@ -2,7 +2,7 @@
 
 ghost use Rattle.std.specs.Prelude.{◌≡◌, [], false, IfOk};
 ghost use Rattle.bus_opening.specs.Openings.{Opening, StandsIn, written_of, rest_of, ended_of};
-ghost use Rattle.bus_peers.specs.Conversations.{opening_of, unix_wire};
+ghost use Rattle.bus_peers.specs.inside.Conversations.{opening_of, unix_wire};
 ghost use Rattle.bus_session.specs.Dialling.{conversation};
 
 use bus_opening::{Client, Handshake, Server, Step};

@@ -8,12 +8,13 @@ ghost use Rattle.react_core.specs.Outer as part;
 ghost use Rattle.react_core.specs.Told.{told, Rose};
 ghost use Rattle.react_core.specs.declared.outside.Event.{Event};
 ghost use Rattle.bus_record.specs.Pieces.{Pieces};
-ghost use Rattle.bus_peers.specs.Faults.{AllCounted, EndedsCounted};
+ghost use Rattle.bus_peers.specs.Faults.{EndedsCounted};
+ghost use Rattle.bus_peers.specs.inside.SlotFaults.{AllCounted};
 ghost use Rattle.bus_peers.specs.Headline.{Opened, RefusedWith, OpenCounted, Completes};
 ghost use Rattle.bus_session.specs.Sessions.{is_built};
-ghost use Rattle.bus_peers.specs.Shown.{Rests, tags};
-ghost use Rattle.bus_peers.specs.Slots.{Owned, AllOpen, Went, Rested, Refuses, Halts};
-ghost use Rattle.bus_peers.specs.Visited.{VisitCounted};
+ghost use Rattle.bus_peers.specs.inside.Shown.{IsBetweenCalls, tags};
+ghost use Rattle.bus_peers.specs.inside.Slots.{Owned, AllOpen, CallStandsAfter, CallSettled, Refuses, Halts};
+ghost use Rattle.bus_peers.specs.inside.Visited.{VisitCounted};
 
 use crate::closing::{endeds_in, remove_sources};
 use crate::rounds::{Nobody, go_rounds};
@@ -91,12 +92,12 @@ fn open_first<O: Outside>(
 ) -> Result<(), OpenError>
     requires few { length sessions.now.items < 2 ^ 32 }
     requires built { list_all is_built sessions.now.items ≡ true }
-    requires rests { Rests reactor.old.core }
+    requires rests { IsBetweenCalls reactor.old.core }
     requires empty { reactor.old.core.sources ≡ [] }
     requires unused { slots.old.items ≡ [] }
     requires room { length sessions.now.items ≤ vec_capacity slots.old }
-    ensures went { OnOk result ((rounds : ℕ) → Went sessions.now.items rounds [] 0 reactor.old.core ((O.outer outside.old).events) ((O.outer outside.new).events) reactor.new.core slots.new.items) }
-    ensures rests { OnOk result (Rests reactor.new.core) }
+    ensures went { OnOk result ((rounds : ℕ) → CallStandsAfter sessions.now.items rounds [] 0 reactor.old.core ((O.outer outside.old).events) ((O.outer outside.new).events) reactor.new.core slots.new.items) }
+    ensures rests { OnOk result (IsBetweenCalls reactor.new.core) }
     ensures stands { OnOk result (AllOpen slots.new.items) }
     ensures len { OnOk result (length slots.new.items ≡ length sessions.now.items) }
     ensures few { length slots.new.items < 2 ^ 32 }
@@ -127,11 +128,11 @@ fn open_rounds<O: Outside>(
 ) -> Result<(), OpenError>
     requires few { length sessions.now.items < 2 ^ 32 }
     requires built { list_all is_built sessions.now.items ≡ true }
-    requires rests { Rests reactor.old.core }
+    requires rests { IsBetweenCalls reactor.old.core }
     requires empty { reactor.old.core.sources ≡ [] }
     requires unused { slots.old.items ≡ [] }
     requires room { length sessions.now.items ≤ vec_capacity slots.old }
-    ensures rested { OnOk result ((past : Pieces) × Rested sessions.now.items rounds reactor.old.core ((O.outer outside.old).events) ((O.outer outside.new).events) reactor.new.core slots.new.items past) }
+    ensures rested { OnOk result ((past : Pieces) × CallSettled sessions.now.items rounds reactor.old.core ((O.outer outside.old).events) ((O.outer outside.new).events) reactor.new.core slots.new.items past) }
     ensures halted { Halts result sessions.now.items rounds reactor.old.core ((O.outer outside.old).events) ((O.outer outside.new).events) reactor.new.core slots.new.items }
     ensures len { OnOk result (length slots.new.items ≡ length sessions.now.items) }
     ensures few { length slots.new.items < 2 ^ 32 }

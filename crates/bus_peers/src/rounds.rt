@@ -1,19 +1,19 @@
 //! Rounds: the reactor waits for all sessions that sleep, and those that a round wakes are visited.
 
 ghost use Rattle.std.specs.Prelude.{◌≡◌, ◌≢◌, ◌<◌, ◌^◌, ◌++◌, ◌∷◌, [], List, ℕ, map, length, true, false, Err, IfOk, OnOk, OnErr};
-ghost use Rattle.bus_peers.specs.RoundEvents.{Round};
+ghost use Rattle.bus_peers.specs.inside.RoundEvents.{Round};
 ghost use Rattle.react_core.specs.Outer.{Keeps};
 ghost use Rattle.react_core.specs.Outer as part;
 ghost use Rattle.react_core.specs.declared.outside.Event.{Event};
-ghost use Rattle.bus_peers.specs.Faults.{CountsOn};
+ghost use Rattle.bus_peers.specs.inside.SlotFaults.{CountsOn};
 ghost use Rattle.bus_peers.specs.Headline.{OpenCounted};
-ghost use Rattle.bus_peers.specs.Rounds.{Rounded, WokenBy, HaveWires, OnExhausted};
-ghost use Rattle.bus_peers.specs.Registry.{RisesFrom};
+ghost use Rattle.bus_peers.specs.inside.Rounds.{Rounded, WokenBy, HaveWires, OnExhausted};
+ghost use Rattle.bus_peers.specs.inside.Registry.{RisesFrom};
 ghost use Rattle.bus_peers.specs.declared.open.OpenError.TheVariants as open_err;
-ghost use Rattle.bus_peers.specs.Due.{is_in};
-ghost use Rattle.bus_peers.specs.Shown.{Rests, tags, has_wire};
-ghost use Rattle.bus_peers.specs.Slots.{Owned, AllOpen, GoesFrom, GoesRound, GoesRounds, Told, Refuses, Stuck};
-ghost use Rattle.bus_peers.specs.Visited.{VisitCounted};
+ghost use Rattle.bus_peers.specs.inside.Due.{is_in};
+ghost use Rattle.bus_peers.specs.inside.Shown.{IsBetweenCalls, tags, has_wire};
+ghost use Rattle.bus_peers.specs.inside.Slots.{Owned, AllOpen, VisitsKeepCall, RoundKeepsCall, RoundsSettleCall, Told, Refuses, Stuck};
+ghost use Rattle.bus_peers.specs.inside.Visited.{VisitCounted};
 
 use crate::open::OpenError;
 use crate::visiting::{Sleeper, Slot, visit};
@@ -73,7 +73,7 @@ fn round<O: Clock + Poller>(
     reactor: &mut Reactor,
     outside: &mut O,
 ) -> Result<Vec<u64>, OpenError>
-    requires rests { Rests reactor.old.core }
+    requires rests { IsBetweenCalls reactor.old.core }
     ensures rounded { IfOk result (λ woken. (r : Round) × Rounded ((O.outer outside.old).events) ((O.outer outside.new).events) reactor.old.core reactor.new.core woken.items r) }
     ensures refused { Refuses result ((O.outer outside.old).events) ((O.outer outside.new).events) reactor.old.core reactor.new.core }
     ensures tags { tags reactor.new.core.sources ≡ tags reactor.old.core.sources }
@@ -101,12 +101,12 @@ fn visit_slot<O: Wire + Registrar>(
     slots: &mut Vec<Slot>,
     wire: u32,
 ) -> Result<(), OpenError>
-    requires rests { Rests reactor.old.core }
+    requires rests { IsBetweenCalls reactor.old.core }
     requires owned { Owned slots.old.items (tags reactor.old.core.sources) }
     requires stands { AllOpen slots.old.items }
     requires registered { has_wire wire (tags reactor.old.core.sources) ≡ true }
-    ensures went { OnOk result ((pending : List ℕ) → GoesFrom (wire ∷ pending) pending ((O.outer outside.old).events) ((O.outer outside.new).events) reactor.old.core reactor.new.core slots.old.items slots.new.items) }
-    ensures rests { OnOk result (Rests reactor.new.core) }
+    ensures went { OnOk result ((pending : List ℕ) → VisitsKeepCall (wire ∷ pending) pending ((O.outer outside.old).events) ((O.outer outside.new).events) reactor.old.core reactor.new.core slots.old.items slots.new.items) }
+    ensures rests { OnOk result (IsBetweenCalls reactor.new.core) }
     ensures stands { OnOk result (AllOpen slots.new.items) }
     ensures owned { Owned slots.new.items (tags reactor.new.core.sources) }
     ensures others { (w : ℕ) → w ≢ wire → has_wire w (tags reactor.new.core.sources) ≡ has_wire w (tags reactor.old.core.sources) }
@@ -135,14 +135,14 @@ fn visit_woken<O: Wire + Registrar>(
     slots: &mut Vec<Slot>,
     woken: &[u64],
 ) -> Result<(), OpenError>
-    requires rests { Rests reactor.old.core }
+    requires rests { IsBetweenCalls reactor.old.core }
     requires owned { Owned slots.old.items (tags reactor.old.core.sources) }
     requires stands { AllOpen slots.old.items }
     requires few { length slots.old.items < 2 ^ 32 }
     requires rise { RisesFrom 0 woken.now }
     requires registered { HaveWires woken.now (tags reactor.old.core.sources) }
-    ensures went { OnOk result (GoesFrom woken.now [] ((O.outer outside.old).events) ((O.outer outside.new).events) reactor.old.core reactor.new.core slots.old.items slots.new.items) }
-    ensures rests { OnOk result (Rests reactor.new.core) }
+    ensures went { OnOk result (VisitsKeepCall woken.now [] ((O.outer outside.old).events) ((O.outer outside.new).events) reactor.old.core reactor.new.core slots.old.items slots.new.items) }
+    ensures rests { OnOk result (IsBetweenCalls reactor.new.core) }
     ensures stands { OnOk result (AllOpen slots.new.items) }
     ensures owned { Owned slots.new.items (tags reactor.new.core.sources) }
     ensures len { length slots.new.items ≡ length slots.old.items }
@@ -167,12 +167,12 @@ fn go_round<O: Outside>(
     outside: &mut O,
     slots: &mut Vec<Slot>,
 ) -> Result<(), OpenError>
-    requires rests { Rests reactor.old.core }
+    requires rests { IsBetweenCalls reactor.old.core }
     requires owned { Owned slots.old.items (tags reactor.old.core.sources) }
     requires stands { AllOpen slots.old.items }
     requires few { length slots.old.items < 2 ^ 32 }
-    ensures went { OnOk result (GoesRound ((O.outer outside.old).events) ((O.outer outside.new).events) reactor.old.core reactor.new.core slots.old.items slots.new.items) }
-    ensures rests { OnOk result (Rests reactor.new.core) }
+    ensures went { OnOk result (RoundKeepsCall ((O.outer outside.old).events) ((O.outer outside.new).events) reactor.old.core reactor.new.core slots.old.items slots.new.items) }
+    ensures rests { OnOk result (IsBetweenCalls reactor.new.core) }
     ensures stands { OnOk result (AllOpen slots.new.items) }
     ensures owned { Owned slots.new.items (tags reactor.new.core.sources) }
     ensures len { length slots.new.items ≡ length slots.old.items }
@@ -197,12 +197,12 @@ pub(crate) fn go_rounds<O: Outside>(
     slots: &mut Vec<Slot>,
     rounds: u64,
 ) -> Result<(), OpenError>
-    requires rests { Rests reactor.old.core }
+    requires rests { IsBetweenCalls reactor.old.core }
     requires owned { Owned slots.old.items (tags reactor.old.core.sources) }
     requires stands { AllOpen slots.old.items }
     requires few { length slots.old.items < 2 ^ 32 }
-    ensures went { OnOk result (GoesRounds rounds ((O.outer outside.old).events) ((O.outer outside.new).events) reactor.old.core reactor.new.core slots.old.items slots.new.items) }
-    ensures rests { OnOk result (Rests reactor.new.core) }
+    ensures went { OnOk result (RoundsSettleCall rounds ((O.outer outside.old).events) ((O.outer outside.new).events) reactor.old.core reactor.new.core slots.old.items slots.new.items) }
+    ensures rests { OnOk result (IsBetweenCalls reactor.new.core) }
     ensures owned { Owned slots.new.items (tags reactor.new.core.sources) }
     ensures len { length slots.new.items ≡ length slots.old.items }
     ensures refused { Refuses result ((O.outer outside.old).events) ((O.outer outside.new).events) reactor.old.core reactor.new.core }

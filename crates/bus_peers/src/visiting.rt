@@ -6,13 +6,13 @@ ghost use Rattle.react_core.specs.Outer as part;
 ghost use Rattle.react_core.specs.Told.{told};
 ghost use Rattle.react_core.specs.declared.outside.Event.{Event};
 ghost use Rattle.bus_session.specs.declared.ended.Ending.TheVariants as ending;
-ghost use Rattle.bus_peers.specs.Faults.{DialCounted, TurnCounted, SlotCounted};
-ghost use Rattle.bus_peers.specs.Registry.{held_at};
+ghost use Rattle.bus_peers.specs.inside.SlotFaults.{DialCounted, PollEndCounted, SlotCounted};
+ghost use Rattle.bus_peers.specs.inside.Registry.{held_at};
 ghost use Rattle.bus_session.specs.Sessions.{is_built};
-ghost use Rattle.bus_peers.specs.Shown.{Rests, shown, tags, without_tag, has_wire};
-ghost use Rattle.bus_peers.specs.Visited.{DialTold, ending_of, VisitCounted, KeepsCall, Holds, Readied, Turns, may_ask, OnAgain, last_turn, Stays, Registers, FirstVisits, FirstTags};
-ghost use Rattle.bus_peers.specs.declared.visiting.Turn.TheVariants as turn;
-ghost use Rattle.bus_peers.specs.Registry.{Held};
+ghost use Rattle.bus_peers.specs.inside.Shown.{IsBetweenCalls, shown, tags, without_tag, has_wire};
+ghost use Rattle.bus_peers.specs.inside.Visited.{DialTold, ending_of, VisitCounted, KeepsCall, Holds, NotReadyNoted, VisitPolls, may_ask, OnAgain, last_poll_end, MakesRegisteredVisit, Registers, FirstVisits, FirstTags};
+ghost use Rattle.bus_peers.specs.declared.visiting.PollEnd.TheVariants as poll_end;
+ghost use Rattle.bus_peers.specs.inside.Registry.{Held};
 
 use crate::conversation::Conversation;
 use crate::open::OpenError;
@@ -24,9 +24,9 @@ use react_core::outside::{Bytes, Dialer, Fault, Opened, OutOfMemory, Registrar, 
 use react_core::reactor::{Dir, Reactor};
 use std::alloc::{AllocError, Global};
 
-/// How a turn of a visit ends.
+/// How a poll within a visit ends.
 #[derive(Clone, Copy)]
-pub(crate) enum Turn {
+pub(crate) enum PollEnd {
     /// The session has ended.
     Over(Ending),
     /// The wire wasn't ready in a direction that was reported: it is asked again.
@@ -134,7 +134,7 @@ fn unconnected(alloc: Global, wire: u32) -> Ended
 }
 
 /// Notes that a wire isn't ready: whether the direction was reported, so that it is to be asked again.
-fn ready<R: Registrar, W: Wakes>(
+fn note_not_ready<R: Registrar, W: Wakes>(
     reactor: &mut Reactor,
     registrar: &mut R,
     wakes: &mut W,
@@ -143,8 +143,8 @@ fn ready<R: Registrar, W: Wakes>(
     dir: Dir,
 ) -> Result<bool, OpenError>
     requires holds { Holds reactor.old.core key wire }
-    requires rests { Rests reactor.old.core }
-    ensures readied { IfOk result (λ again. (h : Held) × Readied wire key dir ((R.outer registrar.old).events) ((R.outer registrar.new).events) reactor.old.core reactor.new.core again h) }
+    requires rests { IsBetweenCalls reactor.old.core }
+    ensures readied { IfOk result (λ again. (h : Held) × NotReadyNoted wire key dir ((R.outer registrar.old).events) ((R.outer registrar.new).events) reactor.old.core reactor.new.core again h) }
     ensures refused { OnErr result (KeepsCall (tags reactor.old.core.sources) ((R.outer registrar.old).events) ((R.outer registrar.new).events) reactor.old.core reactor.new.core) }
     ensures cause { VisitCounted result ((R.outer registrar.old).poller_faults) ((R.outer registrar.new).poller_faults) }
     ensures keeps { Keeps part.Poller (R.outer registrar.old) (R.outer registrar.new) }
@@ -157,14 +157,18 @@ fn ready<R: Registrar, W: Wakes>(
 }
 
 /// Goes on where the direction was reported, else the session sleeps.
-fn turn_of(again: bool) -> Turn
-    ensures { result ≡ (if again then turn.Again else turn.Asleep) }
+fn poll_end_of(again: bool) -> PollEnd
+    ensures { result ≡ (if again then poll_end.Again else poll_end.Asleep) }
 {
-    if again { Turn::Again } else { Turn::Asleep }
+    if again {
+        PollEnd::Again
+    } else {
+        PollEnd::Asleep
+    }
 }
 
 /// Asks the wire until the conversation ends or the wire isn't ready, which is noted.
-fn take_turn<O: Wire + Registrar, W: Wakes>(
+fn poll_and_note<O: Wire + Registrar, W: Wakes>(
     alloc: Global,
     reactor: &mut Reactor,
     outside: &mut O,
@@ -172,27 +176,27 @@ fn take_turn<O: Wire + Registrar, W: Wakes>(
     wire: u32,
     key: usize,
     client: &mut Conversation,
-) -> Result<Turn, OpenError>
+) -> Result<PollEnd, OpenError>
     requires holds { Holds reactor.old.core key wire }
-    requires rests { Rests reactor.old.core }
+    requires rests { IsBetweenCalls reactor.old.core }
     requires open { client.old.ended ≡ false }
-    ensures turned { IfOk result (λ turn. Turns wire key ((O.outer outside.old).events) ((O.outer outside.new).events) reactor.old.core reactor.new.core client.old client.new turn) }
+    ensures turned { IfOk result (λ poll_end. VisitPolls wire key ((O.outer outside.old).events) ((O.outer outside.new).events) reactor.old.core reactor.new.core client.old client.new poll_end) }
     ensures onward { IfOk result (OnAgain (may_ask (held_at (map shown reactor.new.core.sources) key)) (may_ask (held_at (map shown reactor.old.core.sources) key))) }
     ensures refused { OnErr result (KeepsCall (tags reactor.old.core.sources) ((O.outer outside.old).events) ((O.outer outside.new).events) reactor.old.core reactor.new.core) }
     ensures cause { VisitCounted result ((O.outer outside.old).poller_faults) ((O.outer outside.new).poller_faults) }
-    ensures counted { IfOk result (λ turn. TurnCounted wire turn (O.outer outside.old) (O.outer outside.new)) }
+    ensures counted { IfOk result (λ poll_end. PollEndCounted wire poll_end (O.outer outside.old) (O.outer outside.new)) }
     ensures keeps { Keeps (part.Visit wire) (O.outer outside.old) (O.outer outside.new) }
     ensures reports { reactor.new.events ≡ reactor.old.events }
 {
     match client.poll(alloc, outside, wire) {
-        Step::Done(verdict) => Ok(Turn::Over(ending_of(verdict))),
+        Step::Done(verdict) => Ok(PollEnd::Over(ending_of(verdict))),
         Step::WantRead => {
-            let again = ready(reactor, outside, wakes, wire, key, Dir::Read)?;
-            Ok(turn_of(again))
+            let again = note_not_ready(reactor, outside, wakes, wire, key, Dir::Read)?;
+            Ok(poll_end_of(again))
         }
         Step::WantWrite => {
-            let again = ready(reactor, outside, wakes, wire, key, Dir::Write)?;
-            Ok(turn_of(again))
+            let again = note_not_ready(reactor, outside, wakes, wire, key, Dir::Write)?;
+            Ok(poll_end_of(again))
         }
         Step::OutOfMemory => Err(OpenError::OutOfMemory),
     }
@@ -209,20 +213,20 @@ fn resume<O: Wire + Registrar, W: Wakes>(
     client: &mut Conversation,
 ) -> Result<Option<Ending>, OpenError>
     requires holds { Holds reactor.old.core key wire }
-    requires rests { Rests reactor.old.core }
+    requires rests { IsBetweenCalls reactor.old.core }
     requires open { client.old.ended ≡ false }
-    ensures resumed { IfOk result (λ r. Turns wire key ((O.outer outside.old).events) ((O.outer outside.new).events) reactor.old.core reactor.new.core client.old client.new (last_turn r)) }
+    ensures resumed { IfOk result (λ r. VisitPolls wire key ((O.outer outside.old).events) ((O.outer outside.new).events) reactor.old.core reactor.new.core client.old client.new (last_poll_end r)) }
     ensures refused { OnErr result (KeepsCall (tags reactor.old.core.sources) ((O.outer outside.old).events) ((O.outer outside.new).events) reactor.old.core reactor.new.core) }
     ensures cause { VisitCounted result ((O.outer outside.old).poller_faults) ((O.outer outside.new).poller_faults) }
-    ensures counted { IfOk result (λ r. TurnCounted wire (last_turn r) (O.outer outside.old) (O.outer outside.new)) }
+    ensures counted { IfOk result (λ r. PollEndCounted wire (last_poll_end r) (O.outer outside.old) (O.outer outside.new)) }
     ensures keeps { Keeps (part.Visit wire) (O.outer outside.old) (O.outer outside.new) }
     ensures reports { reactor.new.events ≡ reactor.old.events }
 {
     loop {
-        match take_turn(alloc, reactor, outside, wakes, wire, key, client)? {
-            Turn::Over(ending) => return Ok(Some(ending)),
-            Turn::Asleep => return Ok(None),
-            Turn::Again => {}
+        match poll_and_note(alloc, reactor, outside, wakes, wire, key, client)? {
+            PollEnd::Over(ending) => return Ok(Some(ending)),
+            PollEnd::Asleep => return Ok(None),
+            PollEnd::Again => {}
         }
     }
 }
@@ -237,9 +241,9 @@ pub(crate) fn visit<O: Wire + Registrar, W: Wakes>(
     sleeper: Sleeper,
 ) -> Result<Slot, OpenError>
     requires holds { Holds reactor.old.core sleeper.key wire }
-    requires rests { Rests reactor.old.core }
+    requires rests { IsBetweenCalls reactor.old.core }
     requires open { sleeper.client.ended ≡ false }
-    ensures visited { IfOk result (λ slot. Stays wire sleeper.key ((O.outer outside.old).events) ((O.outer outside.new).events) reactor.old.core reactor.new.core sleeper.client slot) }
+    ensures visited { IfOk result (λ slot. MakesRegisteredVisit wire sleeper.key ((O.outer outside.old).events) ((O.outer outside.new).events) reactor.old.core reactor.new.core sleeper.client slot) }
     ensures refused { OnErr result (KeepsCall (without_tag (tags reactor.old.core.sources) sleeper.key) ((O.outer outside.old).events) ((O.outer outside.new).events) reactor.old.core reactor.new.core) }
     ensures cause { VisitCounted result ((O.outer outside.old).poller_faults) ((O.outer outside.new).poller_faults) }
     ensures counted { IfOk result (λ slot. SlotCounted wire slot (O.outer outside.old) (O.outer outside.new)) }
@@ -271,7 +275,7 @@ fn visit_opened<O: Wire + Registrar, W: Wakes>(
     passes: bool,
 ) -> Result<Slot, OpenError>
     requires built { is_built session.now ≡ true }
-    requires rests { Rests reactor.old.core }
+    requires rests { IsBetweenCalls reactor.old.core }
     requires new { has_wire wire (tags reactor.old.core.sources) ≡ false }
     ensures visited { IfOk result (λ slot. Registers session.now wire passes ((O.outer outside.old).events) ((O.outer outside.new).events) reactor.old.core reactor.new.core slot) }
     ensures tags { IfOk result (FirstTags wire (tags reactor.old.core.sources) (tags reactor.new.core.sources)) }
@@ -303,7 +307,7 @@ pub(crate) fn first_visit<O: Wire + Dialer + Registrar, W: Wakes>(
     session: &Session,
 ) -> Result<Slot, OpenError>
     requires built { is_built session.now ≡ true }
-    requires rests { Rests reactor.old.core }
+    requires rests { IsBetweenCalls reactor.old.core }
     requires new { has_wire wire (tags reactor.old.core.sources) ≡ false }
     ensures visited { IfOk result (λ slot. FirstVisits session.now wire ((O.outer outside.old).events) ((O.outer outside.new).events) reactor.old.core reactor.new.core slot) }
     ensures tags { IfOk result (FirstTags wire (tags reactor.old.core.sources) (tags reactor.new.core.sources)) }

@@ -1,6 +1,5 @@
 mod LineLemmas
 mod TextLemmas
 mod AskLemmas
-mod AloneLemmas
 mod SaidLemmas
 mod UserLemmas

@@ -1,18 +1,23 @@
 -- How far a session has come, as it is defined.
-use Rattle.std.specs.Prelude.{Bool, Option, Some, None, if◌then◌else◌}
+use Rattle.std.specs.Prelude.{Bool, Option, Some}
+use Rattle.std.specs.Option.{option_map}
+use Rattle.react_core.specs.declared.reactor.Dir.{Dir}
+use Rattle.bus_opening.specs.Talk.{Ask, opens, handshake, too_many_commands, line_too_long}
 use Rattle.bus_session.specs.declared.ended.Ending.{Ending}
 use Rattle.bus_session.specs.declared.ended.Ending.TheVariants as ending
-use Rattle.bus_opening.specs.Talk.{Ask, opens, handshake, too_many_commands, line_too_long}
 use Rattle.bus_session.specs.declared.session.Party.{Party}
-use Rattle.bus_session.specs.Dialled.{conversation}
-use Rattle.bus_session.specs.Alone.{dials, converses, over}
+use Rattle.bus_session.specs.Outcomes as outcomes
+use Rattle.bus_session.specs.Dialling.{conversation}
+use Rattle.bus_session.specs.Alone.{dials, converses, over, pause_ends}
 use Rattle.bus_session.specs.Alone as alones
 use Rattle.bus_reference.specs.declared.going.Outcome.{Outcome}
 use Rattle.bus_reference.specs.declared.going.Talked.{Talked}
 use Rattle.bus_reference.specs.declared.going.Progress.{Progress}
 use Rattle.bus_reference.specs.declared.going.Progress.TheVariants as progress
+use Rattle.bus_reference.specs.declared.going.Course.{Course}
+use Rattle.bus_reference.specs.Diallings.{as_opened, as_dialling}
 
-abbrev pub as_outcome : Outcome → alones.Outcome
+abbrev pub as_outcome : Outcome → outcomes.Outcome
 as_outcome o = record { ending = o.ending; written = o.written; leftover = o.leftover }
 
 abbrev pub as_talked : Talked → alones.Talked
@@ -20,14 +25,18 @@ as_talked t = record { got = t.got; written = t.written; paused = t.paused }
 
 -- the progress of this party
 abbrev pub as_progress : Party → Progress → alones.Progress
-as_progress p (progress.Dials asked) = dials asked
-as_progress p (progress.Converses passes t) = converses (conversation p passes) (as_talked t)
+as_progress p (progress.Dials d) = dials (as_dialling d)
+as_progress p (progress.Converses o t) = converses (conversation p (as_opened o)) (as_talked t)
 as_progress p (progress.Over o) = over (as_outcome o)
 
--- the ending of a conversation that is asked this, or that stopped at an answer that the wire is not ready
-abbrev pub ending_of : Ask → Bool → Option Ending
-ending_of (opens guid flag) paused = Some (ending.Open guid flag)
-ending_of handshake paused = Some ending.Handshake
-ending_of too_many_commands paused = Some ending.TooManyCommands
-ending_of line_too_long paused = Some ending.LineTooLong
-ending_of asked paused = if paused then Some ending.Waiting else None
+abbrev pub as_course : Course → alones.Course
+as_course c = record { party = c.party.now; progress = as_progress c.party.now c.progress }
+
+-- the ending of a conversation that is asked this, or that stopped at an answer that the wire is not ready, before or
+-- after the deadline
+abbrev pub ending_of : Bool → Ask → Option Dir → Option Ending
+ending_of late (opens guid flag) paused = Some (ending.Open guid flag)
+ending_of late handshake paused = Some ending.Handshake
+ending_of late too_many_commands paused = Some ending.TooManyCommands
+ending_of late line_too_long paused = Some ending.LineTooLong
+ending_of late asked paused = option_map (λ dir. pause_ends late) paused

@@ -1,16 +1,19 @@
 -- The values that are worked out, as those that are defined.
-use Rattle.std.specs.Prelude.{Bool, false, [], ◌++◌, List, ℕ, None}
+use Rattle.std.specs.Prelude.{◌++◌, List, ℕ, Option}
 use Rattle.bus_opening.specs.declared.config.ClientConfig.{ClientConfig}
-use Rattle.bus_opening.specs.Talk.{more, done, refused, goes, ends, send, recv, opens, handshake, too_many_commands, line_too_long}
+use Rattle.bus_opening.specs.Talk.{more, done, refused, goes, ends}
+use Rattle.bus_opening.specs.Talk.{send, recv, opens, handshake, too_many_commands, line_too_long}
 use Rattle.bus_opening.specs.Talk as talks
-use Rattle.bus_opening.specs.Client.{Terms, Settings, first, asking, begun, terms_of, settings_of}
+use Rattle.bus_opening.specs.Client.{Terms, terms_of, first, asking, begun}
 use Rattle.bus_opening.specs.Client as clients
 use Rattle.bus_opening.specs.Server.{ServerTerms, ServerPhase, start, auth, data_wanted, begin}
+use Rattle.bus_reference.specs.declared.dialling.Opened.{Opened}
 use Rattle.bus_reference.specs.declared.turns.Status.{Status}
 use Rattle.bus_reference.specs.declared.turns.Status.TheVariants as status
 use Rattle.bus_reference.specs.declared.turns.Turn.{Turn}
 use Rattle.bus_reference.specs.declared.turns.Turn.TheVariants as turn
 use Rattle.bus_reference.specs.declared.turns.Said.{Said}
+use Rattle.bus_reference.specs.declared.talking.Settings.{Settings}
 use Rattle.bus_reference.specs.declared.talking.Phase.{Phase}
 use Rattle.bus_reference.specs.declared.talking.Phase.TheVariants as phase
 use Rattle.bus_reference.specs.declared.serving.Terms as serving
@@ -19,12 +22,12 @@ use Rattle.bus_reference.specs.declared.serving.Stage.TheVariants as stage
 use Rattle.bus_reference.specs.declared.asking.Asked.{Asked}
 use Rattle.bus_reference.specs.declared.asking.Asked.TheVariants as asked
 
--- a client at a plain path: no GUID is expected, there is no nonce, and the wire is not one of TCP
-abbrev pub terms : ClientConfig → Bool → Terms
-terms config passes = terms_of config None passes false []
+-- the terms of a client that expects this GUID, over this wire
+abbrev pub terms : ClientConfig → Option (List ℕ) → Opened → Terms
+terms config expected o = terms_of config expected o.passes o.tcp o.nonce
 
-abbrev pub settings : ClientConfig → Bool → Settings
-settings config passes = settings_of (terms config passes)
+abbrev pub as_settings : Settings → clients.Settings
+as_settings s = record { hello = s.hello.now; flatpak = s.flatpak; expected = s.expected; passes = s.passes }
 
 abbrev pub as_status : Status → talks.Status
 as_status status.More = more

@@ -3,9 +3,11 @@
 ghost use Rattle.std.specs.Prelude.{◌≡◌, ◌+◌, ◌≤◌, IfOk, Some, None, nat_lt, if◌then◌else◌, sum_by, length};
 ghost use Rattle.std.specs.Option.{option_map};
 ghost use Rattle.bus_opening.specs.Talk.{piece_rest, ask_more, ask_by, ask_now, ask_from, ask, looked_from, left};
-ghost use Rattle.bus_session.specs.Dialled.{conversation};
+ghost use Rattle.bus_session.specs.Dialling.{conversation};
 ghost use Rattle.bus_reference.specs.Views.{as_status, as_ask};
+ghost use Rattle.bus_reference.specs.Diallings.{as_opened};
 
+use crate::dialling::Opened;
 use crate::lines::{feed_at, first_lines, following};
 use crate::speaking::talk;
 use crate::turns::Status;
@@ -33,7 +35,8 @@ pub enum Asked {
 
 // The rest of the piece in which the byte at `taken` lies, where there is one.
 fn piece_rest(taken: usize, pieces: &[Bytes]) -> Option<&[u8]>
-    ensures value { option_map (λ p. p.now) result ≡ (if nat_lt taken (sum_by length pieces.now) then Some (piece_rest taken pieces.now) else None) }
+    ensures value { option_map (λ p. p.now) result
+        ≡ (if nat_lt taken (sum_by length pieces.now) then Some (piece_rest taken pieces.now) else None) }
 {
     let (piece, others) = pieces.split_first()?;
     let bytes = piece.as_slice();
@@ -74,16 +77,17 @@ fn ask_by(status: Status, more: usize, after: &[u8]) -> Option<Asked>
 fn ask_now(
     alloc: Global,
     party: &Party,
-    passes: bool,
+    opened: &Opened,
     got: &[u8],
     taken: usize,
     more: usize,
     looked: usize,
 ) -> Result<Option<Asked>, AllocError>
-    ensures value { IfOk result (λ a. option_map as_ask a ≡ ask_now (conversation party.now passes) got.now taken more looked) }
+    ensures value { IfOk result (λ a. option_map as_ask a
+        ≡ ask_now (conversation party.now (as_opened opened.now)) got.now taken more looked) }
 {
     let lines = first_lines(alloc, got, looked)?;
-    let said = talk(alloc, party, passes, lines.as_slice())?;
+    let said = talk(alloc, party, opened, lines.as_slice())?;
     if let Some(rest) = piece_rest(taken, said.pieces.as_slice()) {
         let rest = Vec::from_slice(alloc, rest)?;
         return Ok(Some(Asked::Send(Bytes::from_vec(rest))));
@@ -95,28 +99,28 @@ fn ask_now(
 fn ask_from(
     alloc: Global,
     party: &Party,
-    passes: bool,
+    opened: &Opened,
     got: &[u8],
     taken: usize,
     more: usize,
     looked: usize,
 ) -> Result<Asked, AllocError>
     requires few { more + looked ≤ 64 }
-    ensures value { IfOk result (λ a. as_ask a ≡ ask_from (conversation party.now passes) got.now taken more looked) }
+    ensures value { IfOk result (λ a. as_ask a
+        ≡ ask_from (conversation party.now (as_opened opened.now)) got.now taken more looked) }
 {
-    let asked = ask_now(alloc, party, passes, got, taken, more, looked)?;
+    let asked = ask_now(alloc, party, opened, got, taken, more, looked)?;
     if let Some(asked) = asked {
         return Ok(asked);
     }
     if more == 0 {
         return Ok(Asked::TooManyCommands);
     }
-    ask_from(alloc, party, passes, got, taken, more - 1, looked + 1)
+    ask_from(alloc, party, opened, got, taken, more - 1, looked + 1)
 }
 
 /// What a party asks over its wire, once these bytes came and so many of its own were taken: to read or to send, or how
-/// the conversation ends (D-Bus specification, Authentication Protocol). `passes` where the wire could pass descriptors; a
-/// client is one that expects no GUID.
+/// the conversation ends (D-Bus specification, Authentication Protocol). A client is one that expects no GUID.
 ///
 /// # Errors
 ///
@@ -124,13 +128,13 @@ fn ask_from(
 pub fn ask(
     alloc: Global,
     party: &Party,
-    passes: bool,
+    opened: &Opened,
     got: &[u8],
     taken: usize,
 ) -> Result<Asked, OutOfMemory>
-    ensures value { IfOk result (λ a. as_ask a ≡ ask (conversation party.now passes) got.now taken) }
+    ensures value { IfOk result (λ a. as_ask a ≡ ask (conversation party.now (as_opened opened.now)) got.now taken) }
 {
-    let asked = ask_from(alloc, party, passes, got, taken, 64, 0)?;
+    let asked = ask_from(alloc, party, opened, got, taken, 64, 0)?;
     Ok(asked)
 }
 
@@ -138,36 +142,37 @@ pub fn ask(
 fn looked_from(
     alloc: Global,
     party: &Party,
-    passes: bool,
+    opened: &Opened,
     got: &[u8],
     taken: usize,
     more: usize,
     looked: usize,
 ) -> Result<usize, AllocError>
     requires few { more + looked ≤ 64 }
-    ensures value { IfOk result (λ j. j ≡ looked_from (conversation party.now passes) got.now taken more looked) }
+    ensures value { IfOk result (λ j. j
+        ≡ looked_from (conversation party.now (as_opened opened.now)) got.now taken more looked) }
 {
     if more == 0 {
         return Ok(looked);
     }
-    let asked = ask_now(alloc, party, passes, got, taken, more, looked)?;
+    let asked = ask_now(alloc, party, opened, got, taken, more, looked)?;
     if asked.is_some() {
         return Ok(looked);
     }
-    looked_from(alloc, party, passes, got, taken, more - 1, looked + 1)
+    looked_from(alloc, party, opened, got, taken, more - 1, looked + 1)
 }
 
 /// What came and was not looked at.
 pub(crate) fn left(
     alloc: Global,
     party: &Party,
-    passes: bool,
+    opened: &Opened,
     got: &[u8],
     taken: usize,
 ) -> Result<Bytes, AllocError>
-    ensures value { IfOk result (λ b. b ≡ left (conversation party.now passes) got.now taken) }
+    ensures value { IfOk result (λ b. b ≡ left (conversation party.now (as_opened opened.now)) got.now taken) }
 {
-    let looked = looked_from(alloc, party, passes, got, taken, 64, 0)?;
+    let looked = looked_from(alloc, party, opened, got, taken, 64, 0)?;
     let rest = Vec::from_slice(alloc, following(looked, got))?;
     Ok(Bytes::from_vec(rest))
 }

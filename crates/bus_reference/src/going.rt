@@ -1,21 +1,21 @@
 //! One event after another.
 
-ghost use Rattle.std.specs.Prelude.{◌≡◌, ◌++◌, ℕ, true, List, [], Some, IfOk};
+ghost use Rattle.std.specs.Prelude.{◌≡◌, ◌++◌, [], Some, IfOk};
 ghost use Rattle.std.specs.Option.{option_map, option_and_then};
-ghost use Rattle.std.specs.Str.{bytes_eq};
-ghost use Rattle.react_core.specs.declared.outside.Question.TheVariants as questions;
+ghost use Rattle.react_core.specs.declared.reactor.Dir.TheVariants as dir;
 ghost use Rattle.bus_session.specs.declared.session.Party.{Party};
-ghost use Rattle.bus_session.specs.Dialled.{conversation, dialled, is_same};
-ghost use Rattle.bus_session.specs.Alone.{over, dials, silence, came_to, asked_next, concluded, after_recv, after_send, after_asked, after, goes_through, rests, outcome_of};
+ghost use Rattle.bus_session.specs.Dialling.{conversation};
+ghost use Rattle.bus_session.specs.Alone.{dials, over, silence, came_to, asked_next, concluded, pause_ends, rests, outcome_of};
+ghost use Rattle.bus_session.specs.Alone.{after_recv, after_send, after_asked, after_in, first_course, after, goes_through};
 ghost use Rattle.bus_reference.specs.Views.{as_ask};
-ghost use Rattle.bus_session.specs.declared.ended.Ending.TheVariants as ending;
-ghost use Rattle.bus_reference.specs.Goings.{ending_of, as_talked, as_outcome, as_progress};
+ghost use Rattle.bus_reference.specs.Diallings.{as_opened, as_dialling};
+ghost use Rattle.bus_reference.specs.Goings.{ending_of, as_talked, as_outcome, as_progress, as_course};
 
 use crate::asking::{Asked, ask, left};
-use bus_session::{Ending, Party};
-use react_core::outside::{
-    Bytes, DialAnswer, Event, OutOfMemory, Question, RecvAnswer, SendAnswer,
-};
+use crate::dialling::{Dialling, Opened, begins, dialled, same_bytes};
+use bus_session::{Ending, Party, Session};
+use react_core::outside::{Bytes, Event, OutOfMemory, RecvAnswer, SendAnswer};
+use react_core::reactor::Dir;
 use std::alloc::{AllocError, Global};
 
 /// What a session comes to.
@@ -28,23 +28,30 @@ pub struct Outcome {
     pub leftover: Bytes,
 }
 
-/// What came over a wire, what it took, and whether its last answer was that it is not ready.
+/// What came over a wire, what it took, and the direction that its last answer paused.
 #[derive(Drop)]
 pub(crate) struct Talked {
     got: Bytes,
     written: Bytes,
-    paused: bool,
+    paused: Option<Dir>,
 }
 
-/// How far a session has come.
+/// How far a part has come.
 #[derive(Drop)]
 pub(crate) enum Progress {
-    /// This is to be dialled.
-    Dials(Question),
-    /// The conversation is had over a wire that passes descriptors or not.
-    Converses(bool, Talked),
+    /// A connection is dialled.
+    Dials(Dialling),
+    /// The conversation is had over this wire.
+    Converses(Opened, Talked),
     /// An answer ended it.
     Over(Outcome),
+}
+
+/// How far a session has come: whose part it takes, and how far that has come.
+#[derive(Drop)]
+pub(crate) struct Course<'a> {
+    party: &'a Party,
+    progress: Progress,
 }
 
 // The first bytes and the others behind them.
@@ -60,29 +67,31 @@ fn joined(alloc: Global, first: &[u8], others: &[u8]) -> Result<Bytes, AllocErro
 fn asked_next(
     alloc: Global,
     party: &Party,
-    passes: bool,
+    opened: &Opened,
     talked: &Talked,
 ) -> Result<Asked, OutOfMemory>
-    ensures value { IfOk result (λ a. as_ask a ≡ asked_next (conversation party.now passes) (as_talked talked.now)) }
+    ensures value { IfOk result (λ a. as_ask a
+        ≡ asked_next (conversation party.now (as_opened opened.now)) (as_talked talked.now)) }
 {
     let got = talked.got.as_slice();
     let taken = talked.written.as_slice().len();
-    ask(alloc, party, passes, got, taken)
+    ask(alloc, party, opened, got, taken)
 }
 
 // The conversation ends so.
 fn concluded(
     alloc: Global,
     party: &Party,
-    passes: bool,
+    opened: &Opened,
     talked: Talked,
     ending: Ending,
 ) -> Result<Outcome, OutOfMemory>
-    ensures value { IfOk result (λ o. as_outcome o ≡ concluded (conversation party.now passes) (as_talked talked) ending) }
+    ensures value { IfOk result (λ o. as_outcome o
+        ≡ concluded (conversation party.now (as_opened opened.now)) (as_talked talked) ending) }
 {
     let got = talked.got.as_slice();
     let taken = talked.written.as_slice().len();
-    let leftover = left(alloc, party, passes, got, taken)?;
+    let leftover = left(alloc, party, opened, got, taken)?;
     Ok(Outcome {
         ending,
         written: talked.written,
@@ -94,21 +103,22 @@ fn concluded(
 fn ends_with(
     alloc: Global,
     party: &Party,
-    passes: bool,
+    opened: &Opened,
     talked: Talked,
     ending: Ending,
 ) -> Result<Option<Progress>, OutOfMemory>
-    ensures value { IfOk result (λ p. option_map (as_progress party.now) p ≡ Some (over (concluded (conversation party.now passes) (as_talked talked) ending))) }
+    ensures value { IfOk result (λ p. option_map (as_progress party.now) p
+        ≡ Some (over (concluded (conversation party.now (as_opened opened.now)) (as_talked talked) ending))) }
 {
-    let outcome = concluded(alloc, party, passes, talked, ending)?;
+    let outcome = concluded(alloc, party, opened, talked, ending)?;
     Ok(Some(Progress::Over(outcome)))
 }
 
-// A wire that is not ready.
-fn pause(mut talked: Talked) -> Talked
-    ensures value { as_talked result ≡ record (as_talked talked) { paused = true } }
+// A wire that is not ready in this direction.
+fn pause(mut talked: Talked, dir: Dir) -> Talked
+    ensures value { as_talked result ≡ record (as_talked talked) { paused = Some dir } }
 {
-    talked.paused = true;
+    talked.paused = Some(dir);
     talked
 }
 
@@ -116,28 +126,31 @@ fn pause(mut talked: Talked) -> Talked
 fn after_recv(
     alloc: Global,
     party: &Party,
-    passes: bool,
+    opened: Opened,
     talked: Talked,
     answer: &RecvAnswer,
 ) -> Result<Option<Progress>, OutOfMemory>
-    ensures value { IfOk result (λ p. option_map (as_progress party.now) p ≡ after_recv (conversation party.now passes) (as_talked talked) answer.now) }
+    ensures value { IfOk result (λ p. option_map (as_progress party.now) p
+        ≡ after_recv (conversation party.now (as_opened opened)) (as_talked talked) answer.now) }
 {
     let bytes = match answer {
         RecvAnswer::Got(bytes) => bytes.as_slice(),
-        RecvAnswer::End => return ends_with(alloc, party, passes, talked, Ending::Handshake),
-        RecvAnswer::NotReady => return Ok(Some(Progress::Converses(passes, pause(talked)))),
-        RecvAnswer::Failed => return ends_with(alloc, party, passes, talked, Ending::Io),
+        RecvAnswer::End => return ends_with(alloc, party, &opened, talked, Ending::Handshake),
+        RecvAnswer::NotReady => {
+            return Ok(Some(Progress::Converses(opened, pause(talked, Dir::Read))));
+        }
+        RecvAnswer::Failed => return ends_with(alloc, party, &opened, talked, Ending::Io),
     };
     if bytes.is_empty() || bytes.len() > 1024 {
         return Ok(None);
     }
     let got = joined(alloc, talked.got.as_slice(), bytes)?;
     Ok(Some(Progress::Converses(
-        passes,
+        opened,
         Talked {
             got,
             written: talked.written,
-            paused: false,
+            paused: None,
         },
     )))
 }
@@ -146,17 +159,20 @@ fn after_recv(
 fn after_send(
     alloc: Global,
     party: &Party,
-    passes: bool,
+    opened: Opened,
     talked: Talked,
     piece: &[u8],
     answer: &SendAnswer,
 ) -> Result<Option<Progress>, OutOfMemory>
-    ensures value { IfOk result (λ p. option_map (as_progress party.now) p ≡ after_send (conversation party.now passes) (as_talked talked) piece.now answer.now) }
+    ensures value { IfOk result (λ p. option_map (as_progress party.now) p
+        ≡ after_send (conversation party.now (as_opened opened)) (as_talked talked) piece.now answer.now) }
 {
     let count = match answer {
         SendAnswer::Took(count) => *count,
-        SendAnswer::NotReady => return Ok(Some(Progress::Converses(passes, pause(talked)))),
-        SendAnswer::Failed => return ends_with(alloc, party, passes, talked, Ending::Io),
+        SendAnswer::NotReady => {
+            return Ok(Some(Progress::Converses(opened, pause(talked, Dir::Write))));
+        }
+        SendAnswer::Failed => return ends_with(alloc, party, &opened, talked, Ending::Io),
     };
     if count == 0 || count > piece.len() {
         return Ok(None);
@@ -164,31 +180,26 @@ fn after_send(
     let (taken, _) = piece.split_at(count);
     let written = joined(alloc, talked.written.as_slice(), taken)?;
     Ok(Some(Progress::Converses(
-        passes,
+        opened,
         Talked {
             got: talked.got,
             written,
-            paused: false,
+            paused: None,
         },
     )))
-}
-
-fn same_bytes(a: &[u8], b: &[u8]) -> bool
-    ensures value { result ≡ bytes_eq a.now b.now }
-{
-    a == b
 }
 
 // An event is the one that is asked: a read of 1024 bytes, or a send of the rest of the piece.
 fn after_asked(
     alloc: Global,
     party: &Party,
-    passes: bool,
+    opened: Opened,
     talked: Talked,
     asked: Asked,
     event: &Event,
 ) -> Result<Option<Progress>, OutOfMemory>
-    ensures value { IfOk result (λ p. option_map (as_progress party.now) p ≡ after_asked (conversation party.now passes) (as_talked talked) (as_ask asked) event.now) }
+    ensures value { IfOk result (λ p. option_map (as_progress party.now) p
+        ≡ after_asked (conversation party.now (as_opened opened)) (as_talked talked) (as_ask asked) event.now) }
 {
     match (asked, event) {
         (
@@ -202,7 +213,7 @@ fn after_asked(
             if *size != 1024 {
                 return Ok(None);
             }
-            after_recv(alloc, party, passes, talked, answer)
+            after_recv(alloc, party, opened, talked, answer)
         }
         (
             Asked::Send(piece),
@@ -215,18 +226,18 @@ fn after_asked(
             if !same_bytes(offered.as_slice(), piece.as_slice()) {
                 return Ok(None);
             }
-            after_send(alloc, party, passes, talked, piece.as_slice(), answer)
+            after_send(alloc, party, opened, talked, piece.as_slice(), answer)
         }
         _ => Ok(None),
     }
 }
 
 // The end of a session that got no connection.
-fn unconnected(alloc: Global) -> Outcome
-    ensures value { as_outcome result ≡ record { ending = ending.Connection; written = []; leftover = [] } }
+fn unconnected(alloc: Global, ending: Ending) -> Outcome
+    ensures value { as_outcome result ≡ record { ending = ending; written = []; leftover = [] } }
 {
     Outcome {
-        ending: Ending::Connection,
+        ending,
         written: Bytes::from_vec(Vec::new(alloc)),
         leftover: Bytes::from_vec(Vec::new(alloc)),
     }
@@ -239,57 +250,25 @@ fn silence(alloc: Global) -> Talked
     Talked {
         got: Bytes::from_vec(Vec::new(alloc)),
         written: Bytes::from_vec(Vec::new(alloc)),
-        paused: false,
+        paused: None,
     }
 }
 
-// Whether a question is for the socket at this path.
-fn is_unix(path: &[u8], question: &Question) -> bool
-    ensures value { result ≡ is_same (questions.Unix path.now) question.now }
+// What a dialling has come to: one that fails has nothing written and nothing left over.
+fn came_to(alloc: Global, dialling: Dialling) -> Progress
+    ensures value { (p : Party) → as_progress p result ≡ came_to p (as_dialling dialling) }
 {
-    match question {
-        Question::Unix(other) => same_bytes(path, other.as_slice()),
-        _ => false,
-    }
-}
-
-// Whether two questions are the same one: for the socket at a path, or for a connection that a peer opened.
-fn is_same(asked: &Question, question: &Question) -> bool
-    ensures value { result ≡ is_same asked.now question.now }
-{
-    match asked {
-        Question::Unix(path) => is_unix(path.as_slice(), question),
-        Question::Accept => matches!(question, Question::Accept),
-        _ => false,
-    }
-}
-
-// What the answer to a question for a connection comes to.
-fn connected(alloc: Global, answer: &DialAnswer) -> Option<Progress>
-    ensures unix { (p : Party) (path : List ℕ) → option_map (as_progress p) result ≡ option_map came_to (dialled p (questions.Unix path) answer.now) }
-    ensures accept { (p : Party) → option_map (as_progress p) result ≡ option_map came_to (dialled p questions.Accept answer.now) }
-{
-    match answer {
-        DialAnswer::Opened { passes } => Some(Progress::Converses(*passes, silence(alloc))),
-        DialAnswer::Failed => Some(Progress::Over(unconnected(alloc))),
-        _ => None,
-    }
-}
-
-// What the answer to a question comes to.
-fn came_to(alloc: Global, question: &Question, answer: &DialAnswer) -> Option<Progress>
-    ensures value { (p : Party) → option_map (as_progress p) result ≡ option_map came_to (dialled p question.now answer.now) }
-{
-    match question {
-        Question::Unix(_) => connected(alloc, answer),
-        Question::Accept => connected(alloc, answer),
-        _ => None,
+    match dialling {
+        Dialling::Asks(question, purpose) => Progress::Dials(Dialling::Asks(question, purpose)),
+        Dialling::Fails(ending) => Progress::Over(unconnected(alloc, ending)),
+        Dialling::Opens(opened) => Progress::Converses(opened, silence(alloc)),
     }
 }
 
 // An event is the answer to the question that is asked.
-fn after_dial(alloc: Global, asked: &Question, event: &Event) -> Option<Progress>
-    ensures value { (p : Party) → option_map (as_progress p) result ≡ after p (dials asked.now) event.now }
+fn after_dial(alloc: Global, dialling: &Dialling, event: &Event) -> Option<Progress>
+    ensures value { (p : Party) → option_map (as_progress p) result
+        ≡ after_in p (dials (as_dialling dialling.now)) event.now }
 {
     let Event::Dial {
         question,
@@ -299,65 +278,105 @@ fn after_dial(alloc: Global, asked: &Question, event: &Event) -> Option<Progress
     else {
         return None;
     };
-    if !is_same(asked, question) {
-        return None;
-    }
-    came_to(alloc, question, answer)
+    let dialling = dialled(alloc, dialling, question, answer)?;
+    Some(came_to(alloc, dialling))
 }
 
-// The session after one more event of its own, if that is the one that comes next.
-fn after(
+// The progress after one more event of its own, if that is the one that comes next.
+fn after_in(
     alloc: Global,
     party: &Party,
     progress: Progress,
     event: &Event,
 ) -> Result<Option<Progress>, OutOfMemory>
-    ensures value { IfOk result (λ p. option_map (as_progress party.now) p ≡ after party.now (as_progress party.now progress) event.now) }
+    ensures value { IfOk result (λ p. option_map (as_progress party.now) p
+        ≡ after_in party.now (as_progress party.now progress) event.now) }
 {
     match progress {
-        Progress::Dials(asked) => Ok(after_dial(alloc, &asked, event)),
-        Progress::Converses(passes, talked) => {
-            let asked = asked_next(alloc, party, passes, &talked)?;
-            after_asked(alloc, party, passes, talked, asked, event)
+        Progress::Dials(dialling) => Ok(after_dial(alloc, &dialling, event)),
+        Progress::Converses(opened, talked) => {
+            let asked = asked_next(alloc, party, &opened, &talked)?;
+            after_asked(alloc, party, opened, talked, asked, event)
         }
         Progress::Over(_) => Ok(None),
     }
 }
 
-// The same, where the events before were those that came next.
-fn after_if(
+/// Where a session begins.
+pub(crate) fn first_course(
     alloc: Global,
-    party: &Party,
-    progress: Option<Progress>,
-    event: &Event,
-) -> Result<Option<Progress>, OutOfMemory>
-    ensures value { IfOk result (λ p. option_map (as_progress party.now) p ≡ option_and_then (λ reached. after party.now reached event.now) (option_map (as_progress party.now) progress)) }
+    session: &Session,
+) -> Result<Option<Course<'_>>, AllocError>
+    ensures value { IfOk result (λ c. option_map as_course c ≡ first_course session.now) }
 {
-    match progress {
-        Some(reached) => after(alloc, party, reached, event),
+    let party = &session.party;
+    let Some(dialling) = begins(alloc, party)? else {
+        return Ok(None);
+    };
+    let progress = came_to(alloc, dialling);
+    Ok(Some(Course { party, progress }))
+}
+
+// The session after one more event of its own, if that is the one that comes next.
+fn after<'a>(
+    alloc: Global,
+    course: Course<'a>,
+    event: &Event,
+) -> Result<Option<Course<'a>>, OutOfMemory>
+    ensures value { IfOk result (λ c. option_map as_course c ≡ after (as_course course.entry) event.now) }
+{
+    let Course { party, progress } = course;
+    let Some(progress) = after_in(alloc, party, progress, event)? else {
+        return Ok(None);
+    };
+    Ok(Some(Course { party, progress }))
+}
+
+// The same, where the events before were those that came next.
+fn after_if<'a>(
+    alloc: Global,
+    course: Option<Course<'a>>,
+    event: &Event,
+) -> Result<Option<Course<'a>>, OutOfMemory>
+    ensures value { IfOk result (λ c. option_map as_course c
+        ≡ option_and_then (λ reached. after reached event.now) (option_map as_course course.entry)) }
+{
+    match course {
+        Some(reached) => after(alloc, reached, event),
         None => Ok(None),
     }
 }
 
 /// The session after all of these events.
-pub(crate) fn goes_through(
+pub(crate) fn goes_through<'a>(
     alloc: Global,
-    party: &Party,
-    progress: Option<Progress>,
+    course: Option<Course<'a>>,
     events: &[Event],
-) -> Result<Option<Progress>, OutOfMemory>
-    ensures value { IfOk result (λ p. option_map (as_progress party.now) p ≡ goes_through party.now (option_map (as_progress party.now) progress) events.now) }
+) -> Result<Option<Course<'a>>, OutOfMemory>
+    ensures value { IfOk result (λ c. option_map as_course c
+        ≡ goes_through (option_map as_course course.entry) events.now) }
 {
-    let mut progress = progress;
+    let mut course = course;
     for event in events {
-        progress = after_if(alloc, party, progress, event)?;
+        course = after_if(alloc, course, event)?;
     }
-    Ok(progress)
+    Ok(course)
+}
+
+// How a pause ends, before or after the deadline.
+fn pause_ends(late: bool) -> Ending
+    ensures value { result ≡ pause_ends late }
+{
+    if late {
+        Ending::TimedOut
+    } else {
+        Ending::Waiting
+    }
 }
 
 // How a conversation ends that is asked nothing more, or that stopped at an answer that the wire is not ready.
-fn ending_of(asked: &Asked, paused: bool) -> Option<Ending>
-    ensures value { result ≡ ending_of (as_ask asked.now) paused }
+fn ending_of(late: bool, asked: &Asked, paused: Option<Dir>) -> Option<Ending>
+    ensures value { result ≡ ending_of late (as_ask asked.now) paused }
 {
     match asked {
         Asked::Opens(guid, flag) => Some(Ending::Open {
@@ -367,40 +386,43 @@ fn ending_of(asked: &Asked, paused: bool) -> Option<Ending>
         Asked::Handshake => Some(Ending::Handshake),
         Asked::TooManyCommands => Some(Ending::TooManyCommands),
         Asked::LineTooLong => Some(Ending::LineTooLong),
-        Asked::Send(_) | Asked::Recv => paused.then_some(Ending::Waiting),
+        Asked::Send(_) | Asked::Recv => paused.map(|_| pause_ends(late)),
     }
 }
 
-// Where a conversation stands that is asked nothing more, or that stopped so.
+// Where a conversation stands that is asked nothing more, or that stopped so, before or after the deadline.
 fn rests(
     alloc: Global,
+    late: bool,
     party: &Party,
-    passes: bool,
+    opened: &Opened,
     talked: Talked,
     asked: &Asked,
 ) -> Result<Option<Outcome>, OutOfMemory>
-    ensures value { IfOk result (λ o. option_map as_outcome o ≡ rests (conversation party.now passes) (as_talked talked) (as_ask asked.now)) }
+    ensures value { IfOk result (λ o. option_map as_outcome o
+        ≡ rests late (conversation party.now (as_opened opened.now)) (as_talked talked) (as_ask asked.now)) }
 {
-    let Some(ending) = ending_of(asked, talked.paused) else {
+    let Some(ending) = ending_of(late, asked, talked.paused) else {
         return Ok(None);
     };
-    let outcome = concluded(alloc, party, passes, talked, ending)?;
+    let outcome = concluded(alloc, party, opened, talked, ending)?;
     Ok(Some(outcome))
 }
 
-/// The outcome, where the session has come to one.
+/// What a session has come to, before or after its deadline, where it has come to something.
 pub(crate) fn outcome_of(
     alloc: Global,
-    party: &Party,
-    progress: Progress,
+    late: bool,
+    course: Course<'_>,
 ) -> Result<Option<Outcome>, OutOfMemory>
-    ensures value { IfOk result (λ o. option_map as_outcome o ≡ outcome_of (as_progress party.now progress)) }
+    ensures value { IfOk result (λ o. option_map as_outcome o ≡ outcome_of late (as_course course.entry)) }
 {
+    let Course { party, progress } = course;
     match progress {
         Progress::Dials(_) => Ok(None),
-        Progress::Converses(passes, talked) => {
-            let asked = asked_next(alloc, party, passes, &talked)?;
-            rests(alloc, party, passes, talked, &asked)
+        Progress::Converses(opened, talked) => {
+            let asked = asked_next(alloc, party, &opened, &talked)?;
+            rests(alloc, late, party, &opened, talked, &asked)
         }
         Progress::Over(outcome) => Ok(Some(outcome)),
     }

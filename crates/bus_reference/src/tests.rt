@@ -116,12 +116,17 @@ fn server() -> Result<Session, Fail> {
     Ok(Session::server(config, None))
 }
 
-fn comes_to(alloc: Global, session: &Session, part: &[Told<'_>]) -> Result<Option<Outcome>, Fail> {
+fn comes_to(
+    alloc: Global,
+    session: &Session,
+    part: &[Told<'_>],
+    moment: Option<u64>,
+) -> Result<Option<Outcome>, Fail> {
     let mut events = Vec::new(alloc);
     for told in part {
         events.push(event(alloc, *told)?)?;
     }
-    Ok(alone(alloc, session, events.as_slice())?)
+    Ok(alone(alloc, session, events.as_slice(), moment)?)
 }
 
 #[test]
@@ -160,7 +165,7 @@ fn a_part_comes_to_its_outcome(rt: HostRuntime) -> Result<(), Fail> {
         (&[Told::Fault, Told::Idle], None),
     ];
     for (part, expected) in rows {
-        let outcome = comes_to(alloc, &client(alloc, false)?, part)?;
+        let outcome = comes_to(alloc, &client(alloc, false)?, part, None)?;
         match (outcome, expected) {
             (None, None) => {}
             (Some(outcome), Some((ending, written))) => {
@@ -206,7 +211,7 @@ fn a_part_of_a_server_comes_to_its_outcome(rt: HostRuntime) -> Result<(), Fail> 
         (&[Told::Unaccepted], Ending::Connection, b""),
     ];
     for (part, ending, written) in rows {
-        let Some(outcome) = comes_to(alloc, &server()?, part)? else {
+        let Some(outcome) = comes_to(alloc, &server()?, part, None)? else {
             return Err("none".into());
         };
         assert!(rt; outcome.ending == ending);
@@ -217,11 +222,36 @@ fn a_part_of_a_server_comes_to_its_outcome(rt: HostRuntime) -> Result<(), Fail> 
 }
 
 #[test]
+fn a_deadline_decides_how_a_pause_ends(rt: HostRuntime) -> Result<(), Fail> {
+    let alloc = rt.alloc();
+    let idle: &[Told<'_>] = &[Told::Opened, Told::Took(AUTH, 25), Told::Idle];
+    let full: &[Told<'_>] = &[Told::Opened, Told::Full(AUTH)];
+    let rows: [(&[Told<'_>], Option<u64>, Option<u64>, Ending); 7] = [
+        (idle, Some(1000), Some(999), Ending::Waiting),
+        (idle, Some(1000), Some(1000), Ending::TimedOut),
+        (full, Some(1000), Some(1001), Ending::TimedOut),
+        (full, Some(1000), Some(0), Ending::Waiting),
+        (idle, Some(1000), None, Ending::Waiting),
+        (idle, None, Some(1000), Ending::Waiting),
+        (&[Told::Fault], Some(1000), Some(1000), Ending::Connection),
+    ];
+    for (part, deadline, moment, ending) in rows {
+        let mut session = client(alloc, false)?;
+        session.deadline = deadline;
+        let Some(outcome) = comes_to(alloc, &session, part, moment)? else {
+            return Err("none".into());
+        };
+        assert!(rt; outcome.ending == ending);
+    }
+    Ok(())
+}
+
+#[test]
 fn each_side_has_its_own_first_question(rt: HostRuntime) -> Result<(), Fail> {
     let alloc = rt.alloc();
-    let client = comes_to(alloc, &client(alloc, false)?, &[Told::Accepted])?;
+    let client = comes_to(alloc, &client(alloc, false)?, &[Told::Accepted], None)?;
     assert!(rt; client.is_none());
-    let server = comes_to(alloc, &server()?, &[Told::Opened])?;
+    let server = comes_to(alloc, &server()?, &[Told::Opened], None)?;
     assert!(rt; server.is_none());
     Ok(())
 }
@@ -248,7 +278,8 @@ fn a_line_may_be_as_long_as_this(rt: HostRuntime) -> Result<(), Fail> {
             part.push(Told::Got(1024, piece))?;
         }
         part.push(Told::Got(1024, last))?;
-        let Some(outcome) = comes_to(alloc, &client(alloc, false)?, part.as_slice())? else {
+        let client = client(alloc, false)?;
+        let Some(outcome) = comes_to(alloc, &client, part.as_slice(), None)? else {
             return Err("none".into());
         };
         assert!(rt; outcome.ending == ending);
@@ -257,6 +288,14 @@ fn a_line_may_be_as_long_as_this(rt: HostRuntime) -> Result<(), Fail> {
         assert!(rt; outcome.leftover.as_slice().iter().all(|byte| *byte == b'a'));
     }
     Ok(())
+}
+
+fn opened(alloc: Global, passes: bool) -> Opened {
+    Opened {
+        passes,
+        tcp: false,
+        nonce: Bytes::from_vec(Vec::new(alloc)),
+    }
 }
 
 #[test]
@@ -274,14 +313,44 @@ fn a_question_is_asked(rt: HostRuntime) -> Result<(), Fail> {
         (&server, false, AUTH, 35, b"\r\n"),
     ];
     for (session, passes, got, taken, piece) in rows {
-        let Asked::Send(sent) = ask(alloc, &session.party, passes, got, taken)? else {
+        let Asked::Send(sent) = ask(alloc, &session.party, &opened(alloc, passes), got, taken)?
+        else {
             return Err("no send".into());
         };
         assert_eq!(rt; sent.as_slice(), piece);
     }
     for (session, taken) in [(&plain, 25), (&server, 0)] {
-        let asked = ask(alloc, &session.party, false, b"", taken)?;
+        let asked = ask(alloc, &session.party, &opened(alloc, false), b"", taken)?;
         assert!(rt; matches!(asked, Asked::Recv));
+    }
+    Ok(())
+}
+
+#[test]
+fn a_wire_of_tcp_begins_with_its_nonce(rt: HostRuntime) -> Result<(), Fail> {
+    let alloc = rt.alloc();
+    let wire = Opened {
+        passes: false,
+        tcp: true,
+        nonce: bytes(alloc, b"0123456789abcdef")?,
+    };
+    let config = ClientConfig {
+        mechanism: None,
+        user: 1000,
+        hello: None,
+        flatpak: false,
+    };
+    let address = String::from_str(alloc, "unix:path=/run/a")?;
+    let session = Session::client(address, config, None);
+    let rows: [(usize, &[u8]); 2] = [
+        (0, b"0123456789abcdef"),
+        (16, b"\0AUTH ANONYMOUS 7a627573\r\n"),
+    ];
+    for (taken, piece) in rows {
+        let Asked::Send(sent) = ask(alloc, &session.party, &wire, b"", taken)? else {
+            return Err("no send".into());
+        };
+        assert_eq!(rt; sent.as_slice(), piece);
     }
     Ok(())
 }

@@ -5,9 +5,9 @@ use Rattle.react_core.specs.Outer.{Keeps}
 use Rattle.react_core.specs.Outer as part
 use Rattle.react_core.specs.Told.{told}
 use Rattle.bus_peers.specs.Counts.{is_delete}
-use Rattle.bus_peers.specs.Closing.{closing}
-use Rattle.bus_peers.specs.Shown.{shown, tags}
-use Rattle.bus_peers.specs.Visited.{VisitCounted}
+use Rattle.bus_peers.specs.inside.Closing.{closing}
+use Rattle.bus_peers.specs.inside.Shown.{shown, tags}
+use Rattle.bus_peers.specs.inside.Visited.{VisitCounted}
 use Rattle.bus_peers.proofs.ClosingLemmas.{Left, with_sources}
 use Rattle.bus_peers.proofs.closing.remove_sources.Given as goal
 

@@ -4,23 +4,23 @@ use Rattle.std.proofs.lemmas.List.{length-append}
 use Rattle.std.proofs.lemmas.Option.{slice_get-get_or}
 use Rattle.bus_session.specs.declared.session.Session.{Session}
 use Rattle.bus_peers.specs.declared.visiting.Slot.{Slot}
-use Rattle.bus_peers.specs.Closing.{counting}
-use Rattle.bus_peers.specs.Shown.{tags}
-use Rattle.bus_peers.specs.Slots.{Owned, Went, Refuses, is_open_slot}
+use Rattle.bus_peers.specs.inside.Closing.{counting}
+use Rattle.bus_peers.specs.inside.Shown.{tags}
+use Rattle.bus_peers.specs.inside.Slots.{Owned, CallStandsAfter, Refuses, is_open_slot}
 use Rattle.bus_session.specs.Sessions.{is_built}
-use Rattle.bus_peers.specs.Visited.{FirstVisits}
+use Rattle.bus_peers.specs.inside.Visited.{FirstVisits}
 use Rattle.react_core.specs.Outer.{keeps-same, keeps-then, visit-in-all}
 use Rattle.react_core.specs.Outer as part
-use Rattle.bus_peers.specs.Faults.{AllCounted}
+use Rattle.bus_peers.specs.inside.SlotFaults.{AllCounted}
 use Rattle.bus_peers.proofs.FrameLemmas.{fell-all, first-made, all-none, all-more}
 use Rattle.bus_peers.proofs.SlotLemmas.{test-at, test-more, no_wire-above, owned-none, owned-first, first-open, refuses-more}
-use Rattle.bus_peers.proofs.GoingLemmas.{going-start, going-first, went-told}
+use Rattle.bus_peers.proofs.CallVisits.{going-start, going-first, went-told}
 use Rattle.bus_peers.proofs.open.open_first.Goals as goal
 
 pub loop-session-init : goal.loop-session-init
 loop-session-init g c =
     let all : length c.deref-session-items.result.now ≡ length c.deref-session-items.result.now - 0 = omega arith in
-    let W : ℕ → ℕ → Type 0 = λ rounds n. Went c.deref-session-items.result.now rounds (counting n 0) 0 c.args.reactor.now.core ((g.O.Tells.outer c.args.outside.now).events) ((g.O.Tells.outer c.args.outside.now).events) c.args.reactor.now.core c.args.slots.now.items in
+    let W : ℕ → ℕ → Type 0 = λ rounds n. CallStandsAfter c.deref-session-items.result.now rounds (counting n 0) 0 c.args.reactor.now.core ((g.O.Tells.outer c.args.outside.now).events) ((g.O.Tells.outer c.args.outside.now).events) c.args.reactor.now.core c.args.slots.now.items in
     let R : List Session → Type 0 = λ x. length x ≤ vec_capacity c.args.slots.now in
     record {
       same = c.deref-session-items.ensures.value;
@@ -57,7 +57,7 @@ loop-session-preserved g c =
     let at : slice_get c.deref-session-items.result.now c.loop-session.session-index ≡ Some c.session-item.result =
     slice_get-get_or c.deref-session-items.result.now c.loop-session.session-index c.session-item.result c.loop-session-test.true ∙ ap Some (sym c.session-item.is) in
     let V : ℕ → Type 0 = λ w. FirstVisits c.session-item.result w ((g.O.Tells.outer c.loop-session.outside).events) ((g.O.Tells.outer c.first_visit.new.outside).events) c.loop-session.reactor.core c.first_visit.new.reactor.core c.in_ok-first_visit.field-0 in
-    let W : ℕ → List Slot → Type 0 = λ rounds x. Went c.deref-session-items.result.now rounds (counting (length c.deref-session-items.result.now - (c.loop-session.session-index + 1)) (c.loop-session.session-index + 1)) 0 c.args.reactor.now.core ((g.O.Tells.outer c.args.outside.now).events) ((g.O.Tells.outer c.first_visit.new.outside).events) c.first_visit.new.reactor.core x in
+    let W : ℕ → List Slot → Type 0 = λ rounds x. CallStandsAfter c.deref-session-items.result.now rounds (counting (length c.deref-session-items.result.now - (c.loop-session.session-index + 1)) (c.loop-session.session-index + 1)) 0 c.args.reactor.now.core ((g.O.Tells.outer c.args.outside.now).events) ((g.O.Tells.outer c.first_visit.new.outside).events) c.first_visit.new.reactor.core x in
     let O : List Slot → Type 0 = λ x. Owned x (tags c.first_visit.new.reactor.core.sources) in
     let A : List Slot → Type 0 = λ x. AllCounted 0 x (g.O.Tells.outer c.args.outside.now) (g.O.Tells.outer c.first_visit.new.outside) in
     let made : c.first_visit.new.reactor.core.made ≡ c.loop-session.reactor.core.made = first-made c.first_visit.result c.session-item.result c.loop-session.wire _ _ _ _ _ c.first_visit.ensures.visited c.first_visit.ensures.refused in
@@ -84,8 +84,8 @@ loop-session-preserved g c =
 pub returns-clause-went : goal.returns-clause-went
 returns-clause-went g c = λ rounds.
     let none : length c.deref-session-items.result.now - c.loop-session.session-index ≡ 0 = omega (arith, c.loop-session-test.false) in
-    let W : ℕ → Type 0 = λ n. Went c.deref-session-items.result.now rounds (counting n c.loop-session.session-index) 0 c.args.reactor.now.core ((g.O.Tells.outer c.args.outside.now).events) ((g.O.Tells.outer c.loop-session.outside).events) c.loop-session.reactor.core c.loop-session.slots.items in
-    let U : List Session → Type 0 = λ x. Went x rounds [] 0 c.args.reactor.now.core ((g.O.Tells.outer c.args.outside.now).events) ((g.O.Tells.outer c.loop-session.outside).events) c.loop-session.reactor.core c.loop-session.slots.items in
+    let W : ℕ → Type 0 = λ n. CallStandsAfter c.deref-session-items.result.now rounds (counting n c.loop-session.session-index) 0 c.args.reactor.now.core ((g.O.Tells.outer c.args.outside.now).events) ((g.O.Tells.outer c.loop-session.outside).events) c.loop-session.reactor.core c.loop-session.slots.items in
+    let U : List Session → Type 0 = λ x. CallStandsAfter x rounds [] 0 c.args.reactor.now.core ((g.O.Tells.outer c.args.outside.now).events) ((g.O.Tells.outer c.loop-session.outside).events) c.loop-session.reactor.core c.loop-session.slots.items in
     subst U c.loop-session.invariant.same (subst W none (c.loop-session.invariant.went rounds))
 
 pub returns-clause-rests : goal.returns-clause-rests

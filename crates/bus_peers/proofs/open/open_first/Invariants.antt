@@ -1,10 +1,10 @@
 use Rattle.std.proofs.Common.{◌≡◌, ◌≤◌, ◌-◌, ℕ, length, vec_capacity}
 use Rattle.react_core.specs.Outer.{Keeps}
 use Rattle.react_core.specs.Outer as part
-use Rattle.bus_peers.specs.Faults.{AllCounted}
-use Rattle.bus_peers.specs.Closing.{counting}
-use Rattle.bus_peers.specs.Shown.{tags}
-use Rattle.bus_peers.specs.Slots.{Owned, AllOpen, Went}
+use Rattle.bus_peers.specs.inside.SlotFaults.{AllCounted}
+use Rattle.bus_peers.specs.inside.Closing.{counting}
+use Rattle.bus_peers.specs.inside.Shown.{tags}
+use Rattle.bus_peers.specs.inside.Slots.{Owned, AllOpen, CallStandsAfter}
 use Rattle.bus_peers.proofs.open.open_first.Given as goal
 
 abbrev pub invariant-loop-session : goal.invariant-loop-session
@@ -13,7 +13,7 @@ invariant-loop-session g l = record {
   wire : l.wire ≡ l.session-index;
   len : length l.slots.items ≡ l.session-index;
   room : length l.session-items ≤ vec_capacity l.slots;
-  went : (rounds : ℕ) → Went l.session-items rounds (counting (length l.session-items - l.session-index) l.session-index) 0 l.fn.reactor.core ((g.O.Tells.outer l.fn.outside).events) ((g.O.Tells.outer l.outside).events) l.reactor.core l.slots.items;
+  went : (rounds : ℕ) → CallStandsAfter l.session-items rounds (counting (length l.session-items - l.session-index) l.session-index) 0 l.fn.reactor.core ((g.O.Tells.outer l.fn.outside).events) ((g.O.Tells.outer l.outside).events) l.reactor.core l.slots.items;
   stands : AllOpen l.slots.items;
   owned : Owned l.slots.items (tags l.reactor.core.sources);
   poller : (g.O.Tells.outer l.outside).poller_faults ≡ (g.O.Tells.outer l.fn.outside).poller_faults;

@@ -1,7 +1,7 @@
 use Rattle.bus_peers.proofs.OpenLemmas.{rested-kept, answers-none, answers-refused, answers-unremoved, answers-opened}
 use Rattle.react_core.specs.Outer.{keeps-same, keeps-then, poller-in-all}
 use Rattle.react_core.specs.Outer as part
-use Rattle.bus_peers.proofs.Firsts.{if-ok}
+use Rattle.bus_peers.proofs.FirstVisit.{if-ok}
 use Rattle.bus_peers.proofs.FrameLemmas.{fell-all, all-later, all-ended}
 use Rattle.bus_peers.proofs.open.open_over.Goals as goal
 

@@ -3,7 +3,7 @@ use Rattle.std.proofs.lemmas.Result.{on_ok_weaker}
 use Rattle.react_core.specs.Outer.{keeps-then}
 use Rattle.react_core.specs.Outer as part
 use Rattle.bus_peers.proofs.SlotLemmas.{refuses-more}
-use Rattle.bus_peers.proofs.GoingLemmas.{went-told}
+use Rattle.bus_peers.proofs.CallVisits.{went-told}
 use Rattle.bus_peers.proofs.FrameLemmas.{fell-all}
 use Rattle.bus_peers.proofs.open.open_rounds.Goals as goal
 

@@ -2,13 +2,13 @@ use Rattle.std.proofs.Common.{◌≡◌, ℕ, List, Option, sym, subst}
 use Rattle.std.proofs.lemmas.Result.{on_ok_weaker}
 use Rattle.react_core.specs.declared.outside.Event.{Event}
 use Rattle.react_core.specs.Core.{Core}
-use Rattle.bus_peers.specs.RoundEvents.{Round}
-use Rattle.bus_peers.specs.Rounds.{Rounded}
+use Rattle.bus_peers.specs.inside.RoundEvents.{Round}
+use Rattle.bus_peers.specs.inside.Rounds.{Rounded}
 use Rattle.react_core.specs.Outer.{keeps-then, round-in-all}
 use Rattle.react_core.specs.Outer as part
 use Rattle.bus_peers.proofs.FrameLemmas.{fell-round, counts-same, counts-then}
 use Rattle.bus_peers.proofs.SlotLemmas.{refuses-more, told-both}
-use Rattle.bus_peers.proofs.RoundGoing.{going-round, round-told, round-wires}
+use Rattle.bus_peers.proofs.CallRounds.{going-round, round-told, round-wires}
 use Rattle.bus_peers.proofs.rounds.go_round.Goals as goal
 
 seen : (r0 r1 : Option (List Event)) (old new : Core) (wires woken : List ℕ) → wires ≡ woken → (r : Round) × Rounded r0 r1 old new woken r → (r : Round) × Rounded r0 r1 old new wires r

@@ -1,13 +1,13 @@
 use Rattle.std.proofs.Common.{rules, ◌≡◌, ◌≢◌, inl, inr, Bool, true, false, [], None, ◌∙◌, arith}
 use Rattle.std.proofs.lemmas.Bool.{both_ways}
 use Rattle.react_core.specs.Core.{Core, IsIdle}
-use Rattle.bus_peers.specs.Rounds.{OnExhausted}
-use Rattle.bus_peers.specs.Slots.{Refuses}
+use Rattle.bus_peers.specs.inside.Rounds.{OnExhausted}
+use Rattle.bus_peers.specs.inside.Slots.{Refuses}
 use Rattle.react_core.specs.Outer.{keeps-same, keeps-then}
 use Rattle.react_core.specs.Outer as part
 use Rattle.bus_peers.proofs.FrameLemmas.{fell-all, counts-none, counts-then}
 use Rattle.bus_peers.proofs.SlotLemmas.{refuses-more, told-both}
-use Rattle.bus_peers.proofs.RoundGoing.{rounds-more, rounds-end, rounds-stuck}
+use Rattle.bus_peers.proofs.CallRounds.{rounds-more, rounds-end, rounds-stuck}
 use Rattle.bus_peers.proofs.rounds.go_rounds.Goals as goal
 
 asleep : (core : Core) (b : Bool) → (IsIdle core → b ≡ true) → core.hands ≡ None → b ≡ false → core.sources ≢ []

@@ -2,17 +2,17 @@ use Rattle.std.proofs.Common.{◌≡◌, ◌≤◌, ◌-◌, List, length}
 use Rattle.react_core.specs.declared.outside.Event.{Event}
 use Rattle.react_core.specs.Outer.{Keeps}
 use Rattle.react_core.specs.Outer as part
-use Rattle.bus_peers.specs.Faults.{CountsOn}
-use Rattle.bus_peers.specs.Shown.{Rests, tags}
-use Rattle.bus_peers.specs.Slots.{Owned, AllOpen, Told}
-use Rattle.bus_peers.proofs.RoundGoing.{GoesOnTo}
+use Rattle.bus_peers.specs.inside.SlotFaults.{CountsOn}
+use Rattle.bus_peers.specs.inside.Shown.{IsBetweenCalls, tags}
+use Rattle.bus_peers.specs.inside.Slots.{Owned, AllOpen, Told}
+use Rattle.bus_peers.proofs.CallRounds.{RoundsKeepCall}
 use Rattle.bus_peers.proofs.rounds.go_rounds.Given as goal
 
 abbrev pub invariant-loop-done : goal.invariant-loop-done
 invariant-loop-done g l = record {
   few : l.done ≤ l.rounds;
-  went : GoesOnTo l.rounds l.done ((g.O.Tells.outer l.fn.outside).events) ((g.O.Tells.outer l.outside).events) l.fn.reactor.core l.reactor.core l.fn.slots.items l.slots.items;
-  rests : Rests l.reactor.core;
+  went : RoundsKeepCall l.rounds l.done ((g.O.Tells.outer l.fn.outside).events) ((g.O.Tells.outer l.outside).events) l.fn.reactor.core l.reactor.core l.fn.slots.items l.slots.items;
+  rests : IsBetweenCalls l.reactor.core;
   stands : AllOpen l.slots.items;
   owned : Owned l.slots.items (tags l.reactor.core.sources);
   len : length l.slots.items ≡ length l.fn.slots.items;

@@ -5,14 +5,14 @@ use Rattle.std.proofs.lemmas.Option.{same_Some, slice_get_read}
 use Rattle.bus_peers.specs.declared.visiting.Slot.{Slot}
 use Rattle.bus_peers.specs.declared.visiting.Slot.TheVariants as slot
 use Rattle.bus_peers.specs.declared.visiting.Sleeper.{Sleeper}
-use Rattle.bus_peers.specs.Shown.{Tags, tag_at, tags, has_wire}
-use Rattle.bus_peers.specs.Slots.{Owned, AllOpen, is_open_slot, GoesFrom}
+use Rattle.bus_peers.specs.inside.Shown.{Tags, tag_at, tags, has_wire}
+use Rattle.bus_peers.specs.inside.Slots.{Owned, AllOpen, is_open_slot, VisitsKeepCall}
 use Rattle.bus_peers.proofs.TagLemmas.{has_wire-below, tag-held, other_wire-without}
 use Rattle.bus_peers.proofs.SlotLemmas.{test-at, test-set, set-set, owns-at, asleep-at, owned-refused, owned-stays, others-stay, open-stays, stays-told}
 use Rattle.react_core.specs.Outer.{visit-in-all}
-use Rattle.bus_peers.specs.Faults.{CountsOn}
+use Rattle.bus_peers.specs.inside.SlotFaults.{CountsOn}
 use Rattle.bus_peers.proofs.FrameLemmas.{counts-set, visit-made}
-use Rattle.bus_peers.proofs.GoingLemmas.{going-again}
+use Rattle.bus_peers.proofs.CallVisits.{going-again}
 use Rattle.bus_peers.proofs.rounds.visit_slot.Goals as goal
 
 within : (w : ℕ) (slots : List Slot) (ts : Tags) → Owned slots ts → has_wire w ts ≡ true → w < length slots
@@ -72,7 +72,7 @@ pub returns-clause-went : goal.returns-clause-went
 returns-clause-went g c = λ pending.
     let at : slice_get c.args.slots.now.items c.args.wire ≡ Some (slot.Asleep c.in-Asleep.sleeper) =
     read c.args.wire c.args.slots.now.items (tags c.args.reactor.now.core.sources) (slot.Asleep c.in-Asleep.sleeper) c.index_mut.result.now c.requires.owned c.requires.registered c.in-Asleep.ensures.value c.index_mut.ensures.value in
-    let G : List Slot → Type 0 = λ x. GoesFrom (c.args.wire ∷ pending) pending ((g.O.Tells.outer c.args.outside.now).events) ((g.O.Tells.outer c.visit.new.outside).events) c.args.reactor.now.core c.visit.new.reactor.core c.args.slots.now.items x in
+    let G : List Slot → Type 0 = λ x. VisitsKeepCall (c.args.wire ∷ pending) pending ((g.O.Tells.outer c.args.outside.now).events) ((g.O.Tells.outer c.visit.new.outside).events) c.args.reactor.now.core c.visit.new.reactor.core c.args.slots.now.items x in
     subst G (sym (set-set c.args.slots.now.items c.args.wire c.replace-slot.new.dest c.in_ok-slots.field-0))
     (going-again c.args.wire pending ((g.O.Tells.outer c.args.outside.now).events) ((g.O.Tells.outer c.visit.new.outside).events) c.args.reactor.now.core c.visit.new.reactor.core c.args.slots.now.items c.in-Asleep.sleeper c.in_ok-slots.field-0
     at c.in_ok-slots.ensures.visited)

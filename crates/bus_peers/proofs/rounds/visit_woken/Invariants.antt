@@ -2,17 +2,17 @@ use Rattle.std.proofs.Common.{◌≡◌, ℕ, List, length, drop}
 use Rattle.react_core.specs.declared.outside.Event.{Event}
 use Rattle.react_core.specs.Outer.{Keeps}
 use Rattle.react_core.specs.Outer as part
-use Rattle.bus_peers.specs.Faults.{CountsOn}
-use Rattle.bus_peers.specs.Rounds.{HaveWires}
-use Rattle.bus_peers.specs.Registry.{RisesFrom}
-use Rattle.bus_peers.specs.Shown.{Rests, tags}
-use Rattle.bus_peers.specs.Slots.{Owned, AllOpen, GoesFrom, Told}
+use Rattle.bus_peers.specs.inside.SlotFaults.{CountsOn}
+use Rattle.bus_peers.specs.inside.Rounds.{HaveWires}
+use Rattle.bus_peers.specs.inside.Registry.{RisesFrom}
+use Rattle.bus_peers.specs.inside.Shown.{IsBetweenCalls, tags}
+use Rattle.bus_peers.specs.inside.Slots.{Owned, AllOpen, VisitsKeepCall, Told}
 use Rattle.bus_peers.proofs.rounds.visit_woken.Given as goal
 
 abbrev pub invariant-loop-wire : goal.invariant-loop-wire
 invariant-loop-wire g l = record {
-  went : GoesFrom l.woken (drop l.wire-index l.woken) ((g.O.Tells.outer l.fn.outside).events) ((g.O.Tells.outer l.outside).events) l.fn.reactor.core l.reactor.core l.fn.slots.items l.slots.items;
-  rests : Rests l.reactor.core;
+  went : VisitsKeepCall l.woken (drop l.wire-index l.woken) ((g.O.Tells.outer l.fn.outside).events) ((g.O.Tells.outer l.outside).events) l.fn.reactor.core l.reactor.core l.fn.slots.items l.slots.items;
+  rests : IsBetweenCalls l.reactor.core;
   stands : AllOpen l.slots.items;
   owned : Owned l.slots.items (tags l.reactor.core.sources);
   len : length l.slots.items ≡ length l.fn.slots.items;

@@ -2,7 +2,7 @@ use Rattle.std.proofs.Common.{ap, Ok}
 use Rattle.react_core.specs.Outer.{keeps-then}
 use Rattle.react_core.specs.Outer as part
 use Rattle.bus_peers.proofs.FrameLemmas.{keeps-dialled, slot-after, unconnected-counted}
-use Rattle.bus_peers.proofs.Firsts.{if-ok, refused-by, first-undialled, first-dialled, dialled-keeps}
+use Rattle.bus_peers.proofs.FirstVisit.{if-ok, refused-by, first-undialled, first-dialled, dialled-keeps}
 use Rattle.bus_peers.proofs.visiting.first_visit.Goals as goal
 
 pub returns-in-Some-clause-visited : goal.returns-in-Some-clause-visited

@@ -1,10 +1,10 @@
 use Rattle.std.proofs.Common.{◌≡◌, map}
 use Rattle.react_core.specs.Outer.{Keeps}
 use Rattle.react_core.specs.Outer as part
-use Rattle.bus_peers.specs.Registry.{held_at}
-use Rattle.bus_peers.specs.Shown.{shown}
-use Rattle.bus_peers.specs.Visited.{may_ask}
-use Rattle.bus_peers.proofs.Turns.{Turning}
+use Rattle.bus_peers.specs.inside.Registry.{held_at}
+use Rattle.bus_peers.specs.inside.Shown.{shown}
+use Rattle.bus_peers.specs.inside.Visited.{may_ask}
+use Rattle.bus_peers.proofs.PollInVisit.{Turning}
 use Rattle.bus_peers.proofs.visiting.resume.Given as goal
 
 abbrev pub invariant-loop-ending : goal.invariant-loop-ending

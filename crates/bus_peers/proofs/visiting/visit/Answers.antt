@@ -1,22 +1,22 @@
 use Rattle.std.proofs.Common.{ap}
-use Rattle.bus_peers.specs.declared.visiting.Turn.TheVariants as turn
-use Rattle.bus_peers.proofs.Turns.{on-err}
+use Rattle.bus_peers.specs.declared.visiting.PollEnd.TheVariants as poll_end
+use Rattle.bus_peers.proofs.PollInVisit.{on-err}
 use Rattle.bus_peers.proofs.StayLemmas.{keeps-removed, kept-turns, kept-source, turns-source, stays-asleep, stays-ended}
 use Rattle.bus_peers.proofs.FrameLemmas.{keeps-visit, ended-counted}
 use Rattle.bus_peers.proofs.visiting.visit.Goals as goal
 
 pub remove_io-requires : goal.remove_io-requires
-remove_io-requires g c = turns-source c.args.wire c.args.sleeper.key _ _ c.args.reactor.now.core c.resume.new.reactor.core c.args.sleeper.client c.resume.new.client (turn.Over c.in-Ok-Some.ending) c.requires.holds
+remove_io-requires g c = turns-source c.args.wire c.args.sleeper.key _ _ c.args.reactor.now.core c.resume.new.reactor.core c.args.sleeper.client c.resume.new.client (poll_end.Over c.in-Ok-Some.ending) c.requires.holds
     (rw c.in-Ok-Some.field-0-is at c.in-Ok-Some.ensures.resumed)
 
 pub returns-in_err-remove_io-in-Ok-Some-clause-refused : goal.returns-in_err-remove_io-in-Ok-Some-clause-refused
 returns-in_err-remove_io-in-Ok-Some-clause-refused g c = on-err _ (keeps-removed c.args.sleeper.key c.remove_io.result _ _ _ c.args.reactor.now.core c.resume.new.reactor.core c.remove_io.new.self.core
-    (kept-turns c.args.wire c.args.sleeper.key _ _ c.args.reactor.now.core c.resume.new.reactor.core c.args.sleeper.client c.resume.new.client (turn.Over c.in-Ok-Some.ending)
+    (kept-turns c.args.wire c.args.sleeper.key _ _ c.args.reactor.now.core c.resume.new.reactor.core c.args.sleeper.client c.resume.new.client (poll_end.Over c.in-Ok-Some.ending)
     (rw c.in-Ok-Some.field-0-is at c.in-Ok-Some.ensures.resumed)) (ap (λ x. x.core) c.remove_io.ensures.removed) c.remove_io.ensures.told)
 
 pub returns-in_err-ended_of-in-Ok-Some-clause-refused : goal.returns-in_err-ended_of-in-Ok-Some-clause-refused
 returns-in_err-ended_of-in-Ok-Some-clause-refused g c = on-err _ (keeps-removed c.args.sleeper.key c.remove_io.result _ _ _ c.args.reactor.now.core c.resume.new.reactor.core c.remove_io.new.self.core
-    (kept-turns c.args.wire c.args.sleeper.key _ _ c.args.reactor.now.core c.resume.new.reactor.core c.args.sleeper.client c.resume.new.client (turn.Over c.in-Ok-Some.ending)
+    (kept-turns c.args.wire c.args.sleeper.key _ _ c.args.reactor.now.core c.resume.new.reactor.core c.args.sleeper.client c.resume.new.client (poll_end.Over c.in-Ok-Some.ending)
     (rw c.in-Ok-Some.field-0-is at c.in-Ok-Some.ensures.resumed)) (ap (λ x. x.core) c.remove_io.ensures.removed) c.remove_io.ensures.told)
 
 pub remove_io-requires-in-Err : goal.remove_io-requires-in-Err

@@ -1,8 +1,8 @@
 use Rattle.std.proofs.Common.{refl, ap}
 use Rattle.bus_session.specs.Dialling.{conversation}
-use Rattle.bus_peers.specs.Conversations.{unix_wire}
-use Rattle.bus_peers.proofs.Turns.{on-err}
-use Rattle.bus_peers.proofs.Firsts.{if-ok, refused-by, insert-keeps, inserted-holds, inserted-rests, inserted-keeps, inserted-tags, inserted-registers}
+use Rattle.bus_peers.specs.inside.Conversations.{unix_wire}
+use Rattle.bus_peers.proofs.PollInVisit.{on-err}
+use Rattle.bus_peers.proofs.FirstVisit.{if-ok, refused-by, insert-keeps, inserted-holds, inserted-rests, inserted-keeps, inserted-tags, inserted-registers}
 use Rattle.react_core.specs.Outer.{keeps-same, poller-in-visit}
 use Rattle.react_core.specs.Outer as part
 use Rattle.bus_peers.proofs.FrameLemmas.{keeps-registered, slot-after}

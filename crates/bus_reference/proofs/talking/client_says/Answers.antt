@@ -7,5 +7,7 @@ use Rattle.bus_reference.proofs.talking.client_says.Goals as goal
 
 pub returns : goal.returns
 returns c =
-    let e = client_is (terms c.args.config.now c.args.passes) c.args.lines.now _ _ (c.in_ok-before.ensures.value c.args.passes) c.in_ok-after.ensures.value in
+    let h = rw c.hello_of.ensures.value at c.in_ok-after.ensures.value in
+    let e = client_is (terms c.args.config.now c.args.expected c.args.opened.now) c.args.lines.now _ _
+    (c.in_ok-before.ensures.value c.args.expected) h in
     record { value = subst (λ (x : Said). IfOk c.ahead.result (λ s. as_said s ≡ x)) e c.ahead.ensures.value }

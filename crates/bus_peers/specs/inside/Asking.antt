@@ -6,7 +6,7 @@ use Rattle.react_core.specs.declared.outside.RecvAnswer.TheVariants as recv_answ
 use Rattle.react_core.specs.declared.outside.SendAnswer.TheVariants as send_answer
 use Rattle.react_core.specs.declared.reactor.Dir.{Dir}
 use Rattle.react_core.specs.declared.reactor.Dir.TheVariants.{Read, Write}
-use Rattle.bus_peers.specs.Registry.{Held, Side, Idle, Waits, Reported, stopped_held, side_held, arming}
+use Rattle.bus_peers.specs.inside.Registry.{Held, Side, Idle, Waits, Reported, stopped_held, side_held, arming}
 
 -- a visit under way: how its directions stand; once a NotReady has ended it, the arming that follows
 pub record Asking : Type 0 where

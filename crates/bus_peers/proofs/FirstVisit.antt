@@ -20,13 +20,13 @@ use Rattle.bus_session.specs.declared.session.Session.{Session}
 use Rattle.bus_peers.specs.declared.visiting.Slot.{Slot}
 use Rattle.bus_peers.specs.declared.visiting.Slot.TheVariants as slot
 use Rattle.bus_session.specs.Dialling.{conversation}
-use Rattle.bus_peers.specs.Conversations.{unix_wire, AsksFirst}
-use Rattle.bus_peers.specs.Registry.{Idle, held_at, with_held}
+use Rattle.bus_peers.specs.inside.Conversations.{unix_wire, AsksFirst}
+use Rattle.bus_peers.specs.inside.Registry.{Idle, held_at, with_held}
 use Rattle.bus_peers.specs.Counts.{waits_in}
-use Rattle.bus_peers.specs.Shown.{AllSane, Rests, shown, Tags, tags, tag_at, without_tag, has_wire, Single}
-use Rattle.bus_peers.specs.Visited.{KeepsCall, Holds, Stays, Registers, FirstTags, FirstVisits, undialled, dialled, dial_event}
-use Rattle.bus_peers.proofs.Registries.{held_at-shown, with_new-shown}
-use Rattle.bus_peers.proofs.Turns.{keeps-after}
+use Rattle.bus_peers.specs.inside.Shown.{AllSane, IsBetweenCalls, shown, Tags, tags, tag_at, without_tag, has_wire, Single}
+use Rattle.bus_peers.specs.inside.Visited.{KeepsCall, Holds, MakesRegisteredVisit, Registers, FirstTags, FirstVisits, undialled, dialled, dial_event}
+use Rattle.bus_peers.proofs.SourcesAreRegistry.{held_at-shown, with_new-shown}
+use Rattle.bus_peers.proofs.PollInVisit.{keeps-after}
 use Rattle.bus_peers.proofs.TagLemmas.{with_tag, tags-with_new, source-no_tag, tag-held, single-distinct, distinct-single, tag_at-with, other_tag-with, other_wire-with, single-with, without-with}
 
 pub if-ok : {T E : Type 0} {P Q : T → Type 0} (r : Result T E) → ((x : T) → P x → Q x) → IfOk r P → IfOk r Q
@@ -60,7 +60,7 @@ module _ (old mid : Core) (wire key : ℕ) (free : source_of old.sources key ≡
   pub inserted-holds : Holds mid key wire
   inserted-holds = tag-held mid.sources key wire (ap (λ ts. tag_at ts key) tags-inserted ∙ tag_at-with (tags old.sources) key wire (source-no_tag old.sources key free))
 
-  pub inserted-rests : has_wire wire (tags old.sources) ≡ false → Rests old → Rests mid
+  pub inserted-rests : has_wire wire (tags old.sources) ≡ false → IsBetweenCalls old → IsBetweenCalls mid
   inserted-rests new rests =
       let S : Tags → Type 0 = λ ts. Single ts in
       let R : Core → Type 0 = λ x. AllSane x.ticker x.ticker x.sources in
@@ -82,7 +82,7 @@ module _ (old mid : Core) (wire key : ℕ) (free : source_of old.sources key ≡
       let K : Tags → Type 0 = λ ts. KeepsCall ts r1 r2 mid new in
       keeps-after (tags old.sources) r0 r1 r2 old mid new (event.Add wire key true ∷ []) added refl (ap (λ c. c.ticker) is) (ap (λ c. c.made) is) (subst K tags-back keeps)
 
-  pub inserted-tags : (r1 r2 : Option (List Event)) (new : Core) (client : Opening) (c : Slot) → has_wire wire (tags old.sources) ≡ false → Stays wire key r1 r2 mid new client c → FirstTags wire (tags old.sources) (tags new.sources) c
+  pub inserted-tags : (r1 r2 : Option (List Event)) (new : Core) (client : Opening) (c : Slot) → has_wire wire (tags old.sources) ≡ false → MakesRegisteredVisit wire key r1 r2 mid new client c → FirstTags wire (tags old.sources) (tags new.sources) c
   inserted-tags r1 r2 new client (slot.Ended e) new_wire (h, h', calls, o, x) = x.tags ∙ tags-back
   inserted-tags r1 r2 new client (slot.Asleep sl) new_wire (h, h', calls, o, x) =
       let ts : Tags = tags old.sources in
@@ -98,9 +98,9 @@ module _ (old mid : Core) (wire key : ℕ) (free : source_of old.sources key ≡
   inserted-tags r1 r2 new client slot.Refused new_wire (h, h', calls, o, x) = absurd x.stays
 
   pub inserted-registers : (s : Session) (passes : Bool) (r0 r1 r2 : Option (List Event)) (new : Core) (client : Opening) (c : Slot) → (talk : List (List ℕ) → Said) × (conversation s.party (unix_wire passes) ≡ talk) × StandsIn talk [] client → client.written ≡ [] →
-      r1 ≡ told r0 (event.Add wire key true ∷ []) → Stays wire key r1 r2 mid new client c → Registers s wire passes r0 r2 old new c
+      r1 ≡ told r0 (event.Add wire key true ∷ []) → MakesRegisteredVisit wire key r1 r2 mid new client c → Registers s wire passes r0 r2 old new c
   inserted-registers s passes r0 r1 r2 new client c (talk, begun, stands) unwritten added stays =
-      let S : Option (List Event) → Type 0 = λ r. Stays wire key r r2 mid new client c in (
+      let S : Option (List Event) → Type 0 = λ r. MakesRegisteredVisit wire key r r2 mid new client c in (
         talk,
         client,
         key,
@@ -117,7 +117,7 @@ module _ (old mid : Core) (wire key : ℕ) (free : source_of old.sources key ≡
       )
 
 -- the insertion was refused
-pub insert-keeps : (wire : ℕ) (e : ReactError) (r0 r1 : Option (List Event)) (old new : Core) → Rests old → InsertTold old wire (Err e) r0 r1 → new ≡ old → KeepsCall (tags old.sources) r0 r1 old new
+pub insert-keeps : (wire : ℕ) (e : ReactError) (r0 r1 : Option (List Event)) (old new : Core) → IsBetweenCalls old → InsertTold old wire (Err e) r0 r1 → new ≡ old → KeepsCall (tags old.sources) r0 r1 old new
 insert-keeps wire react_error.Poller r0 r1 old new rests (key, free, gained) same = (
   event.Add wire key false ∷ [],
   record { gained = gained; waits = refl; ticker = ap (λ c. c.ticker) same; made = ap (λ c. c.made) same; tags = ap (λ c. tags c.sources) same; closed = ap (λ c. c.hands) same ∙ rests.idle },

@@ -4,8 +4,8 @@ use Rattle.std.proofs.lemmas.Bool.{both_ways, ne_eqb, eq-eqb, eqb-true}
 use Rattle.std.proofs.lemmas.Option.{none-some, same_Some}
 use Rattle.react_core.specs.declared.outside.Report.{Report}
 use Rattle.react_core.specs.declared.reactor.Dir.{Dir}
-use Rattle.bus_peers.specs.Registry.{Held, held_at, noted, without_held, with_held, reported_held, after_report_held}
-use Rattle.bus_peers.proofs.Readies.{note-key}
+use Rattle.bus_peers.specs.inside.Registry.{Held, held_at, noted, without_held, with_held, reported_held, after_report_held}
+use Rattle.bus_peers.proofs.NotReadyNotes.{note-key}
 
 noted_go : (wire : ℕ) (dir : Dir) (x : Held) (held : List Held) (k : ℕ) (h : Held) (b : Bool) → (x.key == k) ≡ b → held_at (x ∷ held) k ≡ Some h → h.wire ≢ wire →
     (held_at held k ≡ Some h → held_at (noted wire dir held) k ≡ Some h) → held_at (noted wire dir (x ∷ held)) k ≡ Some h

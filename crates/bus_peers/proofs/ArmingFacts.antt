@@ -4,7 +4,7 @@ use Rattle.react_core.specs.declared.outside.Event.{Event}
 use Rattle.react_core.specs.declared.outside.Event.TheVariants as event
 use Rattle.bus_session.specs.Parts.{part}
 use Rattle.bus_peers.specs.Counts.{waits_in}
-use Rattle.bus_peers.specs.Registry.{Held, waits, registry, arming}
+use Rattle.bus_peers.specs.inside.Registry.{Held, waits, registry, arming}
 
 quiet_one : (c : Bool) (wire key : ℕ) (read write : Bool) (held : List Held) → registry held (if c then event.Modify wire key read write true ∷ [] else []) ≡ held
 quiet_one true wire key read write held = refl

@@ -28,11 +28,11 @@ use Rattle.bus_session.specs.declared.ended.Ending.TheVariants as ending
 use Rattle.bus_session.specs.declared.session.Party.{Party}
 use Rattle.bus_session.specs.Parts.{is_of, part}
 use Rattle.bus_session.specs.Alone.{Progress, Course, converses, after, after_recv, after_send, concluded, goes_through, outcome_of}
-use Rattle.bus_peers.specs.Registry.{Held, held_after, registry, noted}
-use Rattle.bus_peers.specs.Asking.{Asking, asking_next, asks, begins, after_stop}
-use Rattle.bus_peers.specs.Calls.{IsCall, AreCalls}
+use Rattle.bus_peers.specs.inside.Registry.{Held, held_after, registry, noted}
+use Rattle.bus_peers.specs.inside.Asking.{Asking, asking_next, asks, begins, after_stop}
+use Rattle.bus_peers.specs.inside.Calls.{IsCall, AreCalls}
 use Rattle.bus_peers.specs.Counts.{waits_in}
-use Rattle.bus_peers.specs.Visited.{stands_at, EndsAs, GoesOn, ending_of}
+use Rattle.bus_peers.specs.inside.Visited.{stands_at, EndsAs, GoesOn, ending_of}
 
 pub bytes_eq-refl : (bytes : List ℕ) → bytes_eq bytes bytes ≡ true
 bytes_eq-refl [] = refl

@@ -3,7 +3,7 @@ use Rattle.std.specs.Prelude.{◌≡◌, ℕ, Bool, ◌&&◌, ◌||◌, ◌==◌
 use Rattle.std.specs.List.{list_any}
 use Rattle.react_core.specs.declared.outside.Report.{Report}
 use Rattle.bus_session.specs.declared.session.Session.{Session}
-use Rattle.bus_peers.specs.Registry.{Held, waits, RisesFrom}
+use Rattle.bus_peers.specs.inside.Registry.{Held, waits, RisesFrom}
 
 -- some of the reports name a direction that waits
 abbrev pub is_due : List Report → Held → Bool

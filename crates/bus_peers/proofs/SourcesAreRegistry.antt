@@ -8,8 +8,8 @@ use Rattle.react_core.specs.Places.{Entry, Direction, Source}
 use Rattle.react_core.specs.Sources.{has_task, some_task, source_of, without, with_new}
 use Rattle.react_core.specs.Sources as sources_of
 use Rattle.react_core.specs.Reports.{marked, without_task, without_tasks, reported, after_report, after_report_of, after_reports, arming_of, armed_told}
-use Rattle.bus_peers.specs.Registry.{Reported, told_of, waits, arming, Held, held_at, with_held, without_held, after_report_held, after_reports_held, reported_held}
-use Rattle.bus_peers.specs.Shown.{side_of, place_side, task_side, shown}
+use Rattle.bus_peers.specs.inside.Registry.{Reported, told_of, waits, arming, Held, held_at, with_held, without_held, after_report_held, after_reports_held, reported_held}
+use Rattle.bus_peers.specs.inside.Shown.{side_of, place_side, task_side, shown}
 
 -- the source under this key, as the record shows it
 abbrev pub shown_at : ℕ → Source → Held

@@ -25,10 +25,10 @@ use Rattle.bus_peers.specs.declared.open.OpenError.{OpenError}
 use Rattle.bus_peers.specs.declared.open.OpenError.TheVariants as open_err
 use Rattle.bus_peers.specs.Counts.{waits_in}
 use Rattle.bus_peers.specs.Headline.{after_begun}
-use Rattle.bus_peers.specs.Shows.{Shows}
-use Rattle.bus_peers.specs.Due.{is_in}
-use Rattle.bus_peers.specs.Shown.{Rests, shown, Tags, tag_at, has_wire, Single, are_below}
-use Rattle.bus_peers.specs.Visited.{is_awake, stands_at}
+use Rattle.bus_peers.specs.inside.Shows.{Shows}
+use Rattle.bus_peers.specs.inside.Due.{is_in}
+use Rattle.bus_peers.specs.inside.Shown.{IsBetweenCalls, shown, Tags, tag_at, has_wire, Single, are_below}
+use Rattle.bus_peers.specs.inside.Visited.{is_awake, stands_at}
 
 -- ---- which slot owns which key
 
@@ -105,12 +105,12 @@ pub record IsNew (wire : ℕ) (past : Pieces) : Type 0 where
 -- ---- the call under way
 
 -- These pieces were told since the start of the call, and these sessions are still to be visited before the next round.
-pub record Going (sessions : List Session) (rounds : ℕ) (pending : List ℕ) (start : Core) (before after : Option (List Event)) (core : Core)
+pub record CallStands (sessions : List Session) (rounds : ℕ) (pending : List ℕ) (start : Core) (before after : Option (List Event)) (core : Core)
     (slots : List Slot) (past : Pieces) : Type 0 where
   pub gained : after ≡ told before (pieces.told past)
   pub run : Run sessions rounds past pending
   pub shows : Shows past (map shown core.sources)
-  pub rests : Rests core
+  pub rests : IsBetweenCalls core
   pub stands : AllStand 0 pending (take (length slots) sessions) slots past
   -- the sessions without a slot were not dialled yet
   pub unused : (w : ℕ) → length slots ≤ w → IsNew w past
@@ -121,46 +121,46 @@ pub record Going (sessions : List Session) (rounds : ℕ) (pending : List ℕ) (
   pub begun : core.begun ≡ after_begun start.begun (armings_in past)
 
 -- the call stands there after so many rounds
-abbrev pub Went : List Session → ℕ → List ℕ → ℕ → Core → Option (List Event) → Option (List Event) → Core → List Slot → Type 0
-Went sessions rounds pending n start before after core slots =
-    (past : Pieces) × (rounds_in past ≡ n) × Going sessions rounds pending start before after core slots past
+abbrev pub CallStandsAfter : List Session → ℕ → List ℕ → ℕ → Core → Option (List Event) → Option (List Event) → Core → List Slot → Type 0
+CallStandsAfter sessions rounds pending n start before after core slots =
+    (past : Pieces) × (rounds_in past ≡ n) × CallStands sessions rounds pending start before after core slots past
 
 -- no session has a deadline
 abbrev pub AllBuilt : List Session → Type 0
 AllBuilt sessions = list_all is_built sessions ≡ true
 
 -- one visit after another: from where these sessions are to be visited to where those are, whatever the call began with
-abbrev pub GoesFrom : List ℕ → List ℕ → Option (List Event) → Option (List Event) → Core → Core → List Slot → List Slot → Type 0
-GoesFrom pending pending' r0 r1 old new slots slots' =
+abbrev pub VisitsKeepCall : List ℕ → List ℕ → Option (List Event) → Option (List Event) → Core → Core → List Slot → List Slot → Type 0
+VisitsKeepCall pending pending' r0 r1 old new slots slots' =
     (sessions : List Session) (rounds n : ℕ) (start : Core) (before : Option (List Event)) → AllBuilt sessions →
-    Went sessions rounds pending n start before r0 old slots → Went sessions rounds pending' n start before r1 new slots'
+    CallStandsAfter sessions rounds pending n start before r0 old slots → CallStandsAfter sessions rounds pending' n start before r1 new slots'
 
 -- a round and its visits, where one is left and a session sleeps
-abbrev pub GoesRound : Option (List Event) → Option (List Event) → Core → Core → List Slot → List Slot → Type 0
-GoesRound r0 r1 old new slots slots' =
+abbrev pub RoundKeepsCall : Option (List Event) → Option (List Event) → Core → Core → List Slot → List Slot → Type 0
+RoundKeepsCall r0 r1 old new slots slots' =
     (sessions : List Session) (rounds n : ℕ) (start : Core) (before : Option (List Event)) → AllBuilt sessions → length slots ≡ length sessions →
     n < rounds → old.sources ≢ [] →
-    Went sessions rounds [] n start before r0 old slots → Went sessions rounds [] (n + 1) start before r1 new slots'
+    CallStandsAfter sessions rounds [] n start before r0 old slots → CallStandsAfter sessions rounds [] (n + 1) start before r1 new slots'
 
 -- all rounds that were due, from the first visits on
-pub record Rested (sessions : List Session) (rounds : ℕ) (start : Core) (before after : Option (List Event)) (core : Core) (slots : List Slot)
+pub record CallSettled (sessions : List Session) (rounds : ℕ) (start : Core) (before after : Option (List Event)) (core : Core) (slots : List Slot)
     (past : Pieces) : Type 0 where
-  pub going : Going sessions rounds [] start before after core slots past
+  pub going : CallStands sessions rounds [] start before after core slots past
   pub rest : AllRest sessions past
   pub spent : (sleepers sessions past ≡ []) ⊎ (rounds_in past ≡ rounds)
 
-abbrev pub GoesRounds : ℕ → Option (List Event) → Option (List Event) → Core → Core → List Slot → List Slot → Type 0
-GoesRounds rounds r0 r1 old new slots slots' =
+abbrev pub RoundsSettleCall : ℕ → Option (List Event) → Option (List Event) → Core → Core → List Slot → List Slot → Type 0
+RoundsSettleCall rounds r0 r1 old new slots slots' =
     (sessions : List Session) (start : Core) (before : Option (List Event)) → AllBuilt sessions → length slots ≡ length sessions →
-    Went sessions rounds [] 0 start before r0 old slots → (past : Pieces) × Rested sessions rounds start before r1 new slots' past
+    CallStandsAfter sessions rounds [] 0 start before r0 old slots → (past : Pieces) × CallSettled sessions rounds start before r1 new slots' past
 
 -- what one visit comes to, in the record
-pub record Goes (s : Session) (wire : ℕ) (past : Pieces) (before after : Option (List Event)) (old new : Core) (c : Slot) (v : List Event) : Type 0 where
+pub record VisitInRecord (s : Session) (wire : ℕ) (past : Pieces) (before after : Option (List Event)) (old new : Core) (c : Slot) (v : List Event) : Type 0 where
   pub gained : after ≡ told before v
   pub visits : Visit s wire past v
   pub shows : Shows (past ▸ visit wire v) (map shown new.sources)
   pub others : (w : ℕ) → w ≢ wire → part w v ≡ []
-  pub rests : Rests new
+  pub rests : IsBetweenCalls new
   pub ticker : new.ticker ≡ old.ticker
   pub made : new.made ≡ old.made
   pub begun : new.begun ≡ after_begun old.begun (count_by is_modify v)
@@ -187,8 +187,8 @@ Refuses (Ok v) before after old new = Unit {0}
 Refuses (Err e) before after old new = RefusedAt e before after old new
 
 -- Where a round's number ran out, the call stood at the end of its visits, and a session slept.
-pub record Halted (sessions : List Session) (rounds : ℕ) (start : Core) (before after : Option (List Event)) (core : Core) (slots : List Slot) (past : Pieces) : Type 0 where
-  pub going : Going sessions rounds [] start before after core slots past
+pub record CallHalted (sessions : List Session) (rounds : ℕ) (start : Core) (before after : Option (List Event)) (core : Core) (slots : List Slot) (past : Pieces) : Type 0 where
+  pub going : CallStands sessions rounds [] start before after core slots past
   pub rest : AllRest sessions past
   pub sleeper : sleepers sessions past ≢ []
   pub left : rounds_in past < rounds
@@ -199,10 +199,10 @@ Stuck (Err open_err.OutOfMemory) rounds r0 r1 old new slots slots' = Unit {0}
 Stuck (Err open_err.Poller) rounds r0 r1 old new slots slots' = Unit {0}
 Stuck (Err (open_err.Exhausted c value)) rounds r0 r1 old new slots slots' =
     (sessions : List Session) (start : Core) (before : Option (List Event)) → AllBuilt sessions → length slots ≡ length sessions →
-    Went sessions rounds [] 0 start before r0 old slots → (past : Pieces) × Halted sessions rounds start before r1 new slots' past
+    CallStandsAfter sessions rounds [] 0 start before r0 old slots → (past : Pieces) × CallHalted sessions rounds start before r1 new slots' past
 
 abbrev pub Halts : {T : Type 0} → Result T OpenError → List Session → ℕ → Core → Option (List Event) → Option (List Event) → Core → List Slot → Type 0
 Halts (Ok v) sessions rounds start before after core slots = Unit {0}
 Halts (Err open_err.OutOfMemory) sessions rounds start before after core slots = Unit {0}
 Halts (Err open_err.Poller) sessions rounds start before after core slots = Unit {0}
-Halts (Err (open_err.Exhausted c value)) sessions rounds start before after core slots = (past : Pieces) × Halted sessions rounds start before after core slots past
+Halts (Err (open_err.Exhausted c value)) sessions rounds start before after core slots = (past : Pieces) × CallHalted sessions rounds start before after core slots past

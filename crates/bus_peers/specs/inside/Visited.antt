@@ -18,8 +18,8 @@ use Rattle.bus_session.specs.declared.ended.Ending.TheVariants as ending
 use Rattle.bus_session.specs.declared.ended.Ended.{Ended}
 use Rattle.bus_session.specs.declared.session.Party.{Party}
 use Rattle.bus_session.specs.declared.session.Session.{Session}
-use Rattle.bus_peers.specs.declared.visiting.Turn.{Turn}
-use Rattle.bus_peers.specs.declared.visiting.Turn.TheVariants as turn
+use Rattle.bus_peers.specs.declared.visiting.PollEnd.{PollEnd}
+use Rattle.bus_peers.specs.declared.visiting.PollEnd.TheVariants as poll_end
 use Rattle.bus_peers.specs.declared.visiting.Slot.{Slot}
 use Rattle.bus_peers.specs.declared.visiting.Slot.TheVariants as slot
 use Rattle.bus_peers.specs.declared.open.OpenError.{OpenError}
@@ -28,12 +28,12 @@ use Rattle.bus_session.specs.Parts.{part}
 use Rattle.bus_session.specs.Dialling.{conversation}
 use Rattle.bus_session.specs.Alone.{Course, converses, goes_through, outcome_of}
 use Rattle.bus_peers.specs.Headline.{after_begun}
-use Rattle.bus_peers.specs.Registry.{Held, Side, Idle, Waits, Reported, waits, side_held, held_at, with_held, registry, noted, stopped_held}
-use Rattle.bus_peers.specs.Asking.{asks, begins, arms_at}
-use Rattle.bus_peers.specs.Calls.{AreCalls}
-use Rattle.bus_peers.specs.Conversations.{unix_wire, AsksFirst}
+use Rattle.bus_peers.specs.inside.Registry.{Held, Side, Idle, Waits, Reported, waits, side_held, held_at, with_held, registry, noted, stopped_held}
+use Rattle.bus_peers.specs.inside.Asking.{asks, begins, arms_at}
+use Rattle.bus_peers.specs.inside.Calls.{AreCalls}
+use Rattle.bus_peers.specs.inside.Conversations.{unix_wire, AsksFirst}
 use Rattle.bus_peers.specs.Counts.{waits_in}
-use Rattle.bus_peers.specs.Shown.{Rests, shown, Tags, tags, without_tag, tag_at, has_wire, Single}
+use Rattle.bus_peers.specs.inside.Shown.{IsBetweenCalls, shown, Tags, tags, without_tag, tag_at, has_wire, Single}
 
 -- the record grew
 abbrev pub Grows : Option (List Event) → Option (List Event) → Type 0
@@ -97,14 +97,14 @@ asks_again None = true
 asks_again (Some events) = false
 
 -- a NotReady of this direction was noted
-pub record Readied (wire key : ℕ) (dir : Dir) (before after : Option (List Event)) (old new : Core) (again : Bool) (h : Held) : Type 0 where
+pub record NotReadyNoted (wire key : ℕ) (dir : Dir) (before after : Option (List Event)) (old new : Core) (again : Bool) (h : Held) : Type 0 where
   pub was : held_at (map shown old.sources) key ≡ Some h
   pub wired : h.wire ≡ wire
   pub now : held_at (map shown new.sources) key ≡ Some (stopped_held dir h)
   pub gained : after ≡ told before (arms_told (arms_at dir h (side_held dir h)))
   pub again_so : again ≡ asks_again (arms_at dir h (side_held dir h))
   pub shows : map shown new.sources ≡ noted wire dir (map shown old.sources)
-  pub rests : Rests new
+  pub rests : IsBetweenCalls new
   pub ticker : new.ticker ≡ old.ticker
   pub made : new.made ≡ old.made
   pub begun : new.begun ≡ after_begun old.begun (length (arms_told (arms_at dir h (side_held dir h))))
@@ -131,14 +131,14 @@ pub record Pauses (talk : List (List ℕ) → Said) (b : List ℕ) (c c' : Openi
 abbrev pub GoesOn : Opening → Opening → List Event → Type 0
 GoesOn c c' calls = (talk : List (List ℕ) → Said) (b : List ℕ) → StandsIn talk b c → (b' : List ℕ) × Pauses talk b c c' calls b'
 
--- how a turn ends, what it arms, and how the conversation stands then
-abbrev pub TurnsTo : Opening → Opening → List Event → Option (List Event) → Held → Turn → Type 0
-TurnsTo c c' calls o h (turn.Over e) = (o ≡ None) × (is_awake e ≡ true) × EndsAs c e c'.written c'.rest calls
-TurnsTo c c' calls o h turn.Again = (o ≡ None) × (c'.ended ≡ false) × GoesOn c c' calls
-TurnsTo c c' calls o h turn.Asleep = (is_some o ≡ true) × (c'.ended ≡ false) × GoesOn c c' calls
+-- how a poll ends, what it arms, and how the conversation stands then
+abbrev pub PollEndsAs : Opening → Opening → List Event → Option (List Event) → Held → PollEnd → Type 0
+PollEndsAs c c' calls o h (poll_end.Over e) = (o ≡ None) × (is_awake e ≡ true) × EndsAs c e c'.written c'.rest calls
+PollEndsAs c c' calls o h poll_end.Again = (o ≡ None) × (c'.ended ≡ false) × GoesOn c c' calls
+PollEndsAs c c' calls o h poll_end.Asleep = (is_some o ≡ true) × (c'.ended ≡ false) × GoesOn c c' calls
 
 -- One or more turns: the calls of the wire, the arming that ends them, and how the directions then stand.
-pub record Turned (wire key : ℕ) (before after : Option (List Event)) (old new : Core) (c c' : Opening) (t : Turn) (h h' : Held) (calls : List Event) (o : Option (List Event)) : Type 0 where
+pub record VisitPolled (wire key : ℕ) (before after : Option (List Event)) (old new : Core) (c c' : Opening) (t : PollEnd) (h h' : Held) (calls : List Event) (o : Option (List Event)) : Type 0 where
   pub was : held_at (map shown old.sources) key ≡ Some h
   pub wired : h.wire ≡ wire
   pub now : held_at (map shown new.sources) key ≡ Some h'
@@ -154,16 +154,16 @@ pub record Turned (wire key : ℕ) (before after : Option (List Event)) (old new
   pub waits : waits_in (calls ++ arms_told o) ≡ 0
   -- the other wires' sources stand as they stood
   pub keeps : (k : ℕ) (x : Held) → held_at (map shown old.sources) k ≡ Some x → x.wire ≢ wire → held_at (map shown new.sources) k ≡ Some x
-  pub rests : Rests new
+  pub rests : IsBetweenCalls new
   pub ticker : new.ticker ≡ old.ticker
   pub made : new.made ≡ old.made
   pub begun : new.begun ≡ after_begun old.begun (length (arms_told o))
   pub tags : tags new.sources ≡ tags old.sources
-  pub turned : TurnsTo c c' calls o h' t
+  pub turned : PollEndsAs c c' calls o h' t
 
-abbrev pub Turns : ℕ → ℕ → Option (List Event) → Option (List Event) → Core → Core → Opening → Opening → Turn → Type 0
-Turns wire key before after old new c c' t =
-    (h : Held) × (h' : Held) × (calls : List Event) × (o : Option (List Event)) × Turned wire key before after old new c c' t h h' calls o
+abbrev pub VisitPolls : ℕ → ℕ → Option (List Event) → Option (List Event) → Core → Core → Opening → Opening → PollEnd → Type 0
+VisitPolls wire key before after old new c c' t =
+    (h : Held) × (h' : Held) × (calls : List Event) × (o : Option (List Event)) × VisitPolled wire key before after old new c c' t h h' calls o
 
 abbrev pub reported_side : Side → ℕ
 reported_side Idle = 0
@@ -178,15 +178,15 @@ abbrev pub may_ask : Option Held → ℕ
 may_ask None = 0
 may_ask (Some h) = reported_one h
 
--- a turn that asks again leaves less
-abbrev pub OnAgain : ℕ → ℕ → Turn → Type 0
-OnAgain now before turn.Again = now < before
-OnAgain now before turn.Asleep = Unit {0}
-OnAgain now before (turn.Over e) = Unit {0}
+-- a poll after which the wire is asked again leaves less
+abbrev pub OnAgain : ℕ → ℕ → PollEnd → Type 0
+OnAgain now before poll_end.Again = now < before
+OnAgain now before poll_end.Asleep = Unit {0}
+OnAgain now before (poll_end.Over e) = Unit {0}
 
-abbrev pub last_turn : Option Ending → Turn
-last_turn None = turn.Asleep
-last_turn (Some e) = turn.Over e
+abbrev pub last_poll_end : Option Ending → PollEnd
+last_poll_end None = poll_end.Asleep
+last_poll_end (Some e) = poll_end.Over e
 
 -- ---- a stay over a registered wire
 
@@ -201,24 +201,24 @@ tags_after key (slot.Ended e) ts = without_tag ts key
 tags_after key (slot.Asleep s) ts = ts
 tags_after key slot.Refused ts = ts
 
-abbrev pub StaysAs : ℕ → ℕ → Opening → List Event → Option (List Event) → List Held → Held → Slot → Type 0
-StaysAs wire key c calls o held h (slot.Ended e) = record {
+abbrev pub RegisteredVisitEnds : ℕ → ℕ → Opening → List Event → Option (List Event) → List Held → Held → Slot → Type 0
+RegisteredVisitEnds wire key c calls o held h (slot.Ended e) = record {
   over : o ≡ None;
   wired : e.wire ≡ wire;
   unread : e.moment ≡ None;
   awake : is_awake e.ending ≡ true;
   ends : EndsAs c e.ending e.written e.leftover calls;
 }
-StaysAs wire key c calls o held h (slot.Asleep s) = record {
+RegisteredVisitEnds wire key c calls o held h (slot.Asleep s) = record {
   over : is_some o ≡ true;
   at : s.key ≡ key;
   open_ : s.client.ended ≡ false;
   goes : GoesOn c s.client calls;
   held : held_at held key ≡ Some h;
 }
-StaysAs wire key c calls o held h slot.Refused = ⊥
+RegisteredVisitEnds wire key c calls o held h slot.Refused = ⊥
 
-pub record Stayed (wire key : ℕ) (before after : Option (List Event)) (old new : Core) (c : Opening) (s : Slot) (h h' : Held) (calls : List Event) (o : Option (List Event)) : Type 0 where
+pub record RegisteredVisit (wire key : ℕ) (before after : Option (List Event)) (old new : Core) (c : Opening) (s : Slot) (h h' : Held) (calls : List Event) (o : Option (List Event)) : Type 0 where
   pub was : held_at (map shown old.sources) key ≡ Some h
   pub wired : h.wire ≡ wire
   pub wired' : h'.wire ≡ wire
@@ -230,16 +230,16 @@ pub record Stayed (wire key : ℕ) (before after : Option (List Event)) (old new
   pub apart : (w : ℕ) → part w (tail_of wire key o s) ≡ []
   pub waits : waits_in (calls ++ tail_of wire key o s) ≡ 0
   pub keeps : (k : ℕ) (x : Held) → held_at (map shown old.sources) k ≡ Some x → x.wire ≢ wire → held_at (map shown new.sources) k ≡ Some x
-  pub rests : Rests new
+  pub rests : IsBetweenCalls new
   pub ticker : new.ticker ≡ old.ticker
   pub made : new.made ≡ old.made
   pub begun : new.begun ≡ after_begun old.begun (length (arms_told o))
   pub tags : tags new.sources ≡ tags_after key s (tags old.sources)
-  pub stays : StaysAs wire key c calls o (map shown new.sources) h' s
+  pub stays : RegisteredVisitEnds wire key c calls o (map shown new.sources) h' s
 
-abbrev pub Stays : ℕ → ℕ → Option (List Event) → Option (List Event) → Core → Core → Opening → Slot → Type 0
-Stays wire key before after old new c s =
-    (h : Held) × (h' : Held) × (calls : List Event) × (o : Option (List Event)) × Stayed wire key before after old new c s h h' calls o
+abbrev pub MakesRegisteredVisit : ℕ → ℕ → Option (List Event) → Option (List Event) → Core → Core → Opening → Slot → Type 0
+MakesRegisteredVisit wire key before after old new c s =
+    (h : Held) × (h' : Held) × (calls : List Event) × (o : Option (List Event)) × RegisteredVisit wire key before after old new c s h h' calls o
 
 -- ---- a first visit
 
@@ -251,7 +251,7 @@ pub record Registered (s : Session) (wire : ℕ) (passes : Bool) (before after :
   pub free : held_at (map shown old.sources) key ≡ None
   pub core : mid ≡ inserted old key wire
   pub shows : with_held (map shown old.sources) (record { key = key; wire = wire; read = Idle; write = Idle }) ≡ map shown mid.sources
-  pub stays : Stays wire key (told before (event.Add wire key true ∷ [])) after mid new client c
+  pub stays : MakesRegisteredVisit wire key (told before (event.Add wire key true ∷ [])) after mid new client c
 
 abbrev pub Registers : Session → ℕ → Bool → Option (List Event) → Option (List Event) → Core → Core → Slot → Type 0
 Registers s wire passes before after old new c =

@@ -1,5 +1,5 @@
-use Rattle.bus_peers.proofs.Readies.{readied, holds-source}
-use Rattle.bus_peers.proofs.visiting.ready.Goals as goal
+use Rattle.bus_peers.proofs.NotReadyNotes.{readied, holds-source}
+use Rattle.bus_peers.proofs.visiting.note_not_ready.Goals as goal
 
 pub poll_ready-requires : goal.poll_ready-requires
 poll_ready-requires g c = holds-source c.args.reactor.now.core c.args.key c.args.wire c.requires.holds

@@ -14,13 +14,13 @@ use Rattle.react_core.specs.Sources.{source_of, with_source, side, with_side}
 use Rattle.react_core.specs.Readiness.{Outcome, direction_outcome, source_outcome, poll_outcome, poll_answer, poll_told, woken_by, arms, after_source_poll, armed, is_ready}
 use Rattle.react_core.specs.Step.{Step, PolledPoll, Polled}
 use Rattle.bus_peers.specs.Headline.{after_begun}
-use Rattle.bus_peers.specs.Registry.{Side, Idle, Waits, Reported, waits, side_held, Held, held_at, arming, noted, stopped_held, Apart, Distinct}
-use Rattle.bus_peers.specs.Asking.{arms_at}
-use Rattle.bus_peers.specs.Shown.{shown, side_of, poll_of, Sane, SaneSource, AllSane, Rests, tags}
-use Rattle.bus_peers.specs.Visited.{Holds, Readied, arms_told, asks_again}
-use Rattle.bus_peers.proofs.Registries.{shown_at, waits-side, held_at-shown}
+use Rattle.bus_peers.specs.inside.Registry.{Side, Idle, Waits, Reported, waits, side_held, Held, held_at, arming, noted, stopped_held, Apart, Distinct}
+use Rattle.bus_peers.specs.inside.Asking.{arms_at}
+use Rattle.bus_peers.specs.inside.Shown.{shown, side_of, poll_of, Sane, SaneSource, AllSane, IsBetweenCalls, tags}
+use Rattle.bus_peers.specs.inside.Visited.{Holds, NotReadyNoted, arms_told, asks_again}
+use Rattle.bus_peers.proofs.SourcesAreRegistry.{shown_at, waits-side, held_at-shown}
 use Rattle.bus_peers.proofs.TagLemmas.{tags-with_source}
-use Rattle.bus_peers.proofs.Links.{poll-by, poll-noted}
+use Rattle.bus_peers.proofs.PollChangesSources.{poll-by, poll-noted}
 
 go_sane : (round last : ℕ) (x : ℕ × Source) (sources : List (ℕ × Source)) (key : ℕ) (s : Source) (b : Bool) → (x.0 == key) ≡ b → SaneSource round last x.1 → source_of (x ∷ sources) key ≡ Some s →
     (source_of sources key ≡ Some s → SaneSource round last s) → SaneSource round last s
@@ -177,10 +177,10 @@ held-source sources key h is = source_shown key (source_of sources key) h (sym (
 pub holds-source : (core : Core) (key wire : ℕ) → Holds core key wire → HasSource core key
 holds-source core key wire (h, is, own) = let (s, at, e) = held-source core.sources key h is in rw at refl
 
-readied-at : (old new : Core) (wire key : ℕ) (dir : Dir) (answer : Poll (Unit {0})) (r0 r1 : Option (List Event)) (s : Source) → Rests old → source_of old.sources key ≡ Some s → s.wire ≡ wire →
+readied-at : (old new : Core) (wire key : ℕ) (dir : Dir) (answer : Poll (Unit {0})) (r0 r1 : Option (List Event)) (s : Source) → IsBetweenCalls old → source_of old.sources key ≡ Some s → s.wire ≡ wire →
     Step old (PolledPoll key dir wire) (Polled answer) (woken_by (poll_outcome old key dir wire)) new →
     r1 ≡ told r0 (poll_told old key dir wire (Ok answer)) →
-    Readied wire key dir r0 r1 old new (is_ready answer) (shown_at key s)
+    NotReadyNoted wire key dir r0 r1 old new (is_ready answer) (shown_at key s)
 readied-at old new wire key dir answer r0 r1 s rests is own step gained =
     let b : Side = side_held dir (shown_at key s) in
     let at : held_at (map shown old.sources) key ≡ Some (shown_at key s) = held_at-shown old.sources key ∙ ap (option_map (shown_at key)) is in
@@ -213,17 +213,17 @@ readied-at old new wire key dir answer r0 r1 s rests is own step gained =
       tags = ap (λ c. tags c.sources) core ∙ poll-tags old key dir s s.wire b is;
     }
 
-readied-found : (old new : Core) (wire key : ℕ) (dir : Dir) (answer : Poll (Unit {0})) (r0 r1 : Option (List Event)) (h : Held) → Rests old → h.wire ≡ wire →
+readied-found : (old new : Core) (wire key : ℕ) (dir : Dir) (answer : Poll (Unit {0})) (r0 r1 : Option (List Event)) (h : Held) → IsBetweenCalls old → h.wire ≡ wire →
     (s : Source) × (source_of old.sources key ≡ Some s) × (shown_at key s ≡ h) →
     Step old (PolledPoll key dir wire) (Polled answer) (woken_by (poll_outcome old key dir wire)) new →
     r1 ≡ told r0 (poll_told old key dir wire (Ok answer)) →
-    (h : Held) × Readied wire key dir r0 r1 old new (is_ready answer) h
+    (h : Held) × NotReadyNoted wire key dir r0 r1 old new (is_ready answer) h
 readied-found old new wire key dir answer r0 r1 h rests wired (s, is, show) step gained =
     (shown_at key s, readied-at old new wire key dir answer r0 r1 s rests is (ap (λ y. y.wire) show ∙ wired) step gained)
 
-pub readied : (old new : Core) (wire key : ℕ) (dir : Dir) (answer : Poll (Unit {0})) (r0 r1 : Option (List Event)) → Rests old → Holds old key wire →
+pub readied : (old new : Core) (wire key : ℕ) (dir : Dir) (answer : Poll (Unit {0})) (r0 r1 : Option (List Event)) → IsBetweenCalls old → Holds old key wire →
     Step old (PolledPoll key dir wire) (Polled answer) (woken_by (poll_outcome old key dir wire)) new →
     r1 ≡ told r0 (poll_told old key dir wire (Ok answer)) →
-    (h : Held) × Readied wire key dir r0 r1 old new (is_ready answer) h
+    (h : Held) × NotReadyNoted wire key dir r0 r1 old new (is_ready answer) h
 readied old new wire key dir answer r0 r1 rests (h, at, wired) step gained =
     readied-found old new wire key dir answer r0 r1 h rests wired (held-source old.sources key h at) step gained

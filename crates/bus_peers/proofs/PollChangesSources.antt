@@ -8,9 +8,9 @@ use Rattle.react_core.specs.Places.{Entry, Direction, Source, round_number}
 use Rattle.react_core.specs.Core.{Core}
 use Rattle.react_core.specs.Sources.{source_of, with_source, side, with_side, some_task}
 use Rattle.react_core.specs.Readiness.{Outcome, Fires, fresh_at, stored_task, direction_outcome, waiting_outcome, after_source_poll}
-use Rattle.bus_peers.specs.Registry.{Side, Idle, Waits, Reported, side_held, Held, noted, stopped_held, Apart, Distinct}
-use Rattle.bus_peers.specs.Shown.{shown, side_of, place_side, task_side, poll_of, Sane, SanePlace, SaneTask}
-use Rattle.bus_peers.proofs.Registries.{shown_at}
+use Rattle.bus_peers.specs.inside.Registry.{Side, Idle, Waits, Reported, side_held, Held, noted, stopped_held, Apart, Distinct}
+use Rattle.bus_peers.specs.inside.Shown.{shown, side_of, place_side, task_side, poll_of, Sane, SanePlace, SaneTask}
+use Rattle.bus_peers.proofs.SourcesAreRegistry.{shown_at}
 
 -- what a poll does where no future waits
 abbrev lone_outcome : ℕ → Option ℕ → Option Entry → Outcome

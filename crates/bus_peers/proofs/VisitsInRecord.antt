@@ -43,23 +43,23 @@ use Rattle.bus_peers.specs.declared.visiting.Slot.{Slot}
 use Rattle.bus_peers.specs.declared.visiting.Slot.TheVariants as slot
 use Rattle.bus_peers.specs.declared.visiting.Sleeper.{Sleeper}
 use Rattle.bus_peers.specs.Counts.{waits_in}
-use Rattle.bus_peers.specs.Calls.{AreCalls}
+use Rattle.bus_peers.specs.inside.Calls.{AreCalls}
 use Rattle.bus_peers.specs.Headline.{after_begun}
-use Rattle.bus_peers.specs.Registry.{Held, Idle, Waits, Reported, waits as held_waits, side_held, stopped_held, held_at, with_held, idle, registry}
-use Rattle.bus_peers.specs.Asking.{Asking, asks, asking_at, asking_next, begins, arms_at}
-use Rattle.bus_peers.specs.Shows.{IsSide, StandsAt, Shows}
-use Rattle.bus_peers.specs.Stays.{FirstDial, opened_course, Converses, Concludes, LeavesAsleep}
-use Rattle.bus_peers.specs.Shown.{Rests, shown}
-use Rattle.bus_peers.specs.Slots.{Talking, IsNew, Stands, Goes}
-use Rattle.bus_peers.specs.Conversations.{unix_wire, AsksFirst}
-use Rattle.bus_peers.specs.Visited as visited
-use Rattle.bus_peers.specs.Visited.{is_awake, arms_told, stands_at, Pauses, Stays, Stayed, FirstVisits}
-use Rattle.bus_peers.proofs.Talks.{part-append, goes-append, waits_in-append, part-own, part-other}
+use Rattle.bus_peers.specs.inside.Registry.{Held, Idle, Waits, Reported, waits as held_waits, side_held, stopped_held, held_at, with_held, idle, registry}
+use Rattle.bus_peers.specs.inside.Asking.{Asking, asks, asking_at, asking_next, begins, arms_at}
+use Rattle.bus_peers.specs.inside.Shows.{IsSide, StandsAt, Shows}
+use Rattle.bus_peers.specs.inside.RegisteredVisits.{FirstDial, opened_course, Converses, Concludes, LeavesAsleep}
+use Rattle.bus_peers.specs.inside.Shown.{IsBetweenCalls, shown}
+use Rattle.bus_peers.specs.inside.Slots.{Talking, IsNew, Stands, VisitInRecord}
+use Rattle.bus_peers.specs.inside.Conversations.{unix_wire, AsksFirst}
+use Rattle.bus_peers.specs.inside.Visited as visited
+use Rattle.bus_peers.specs.inside.Visited.{is_awake, arms_told, stands_at, Pauses, MakesRegisteredVisit, RegisteredVisit, FirstVisits}
+use Rattle.bus_peers.proofs.PollInRecord.{part-append, goes-append, waits_in-append, part-own, part-other}
 use Rattle.bus_peers.proofs.Sides.{side-waits}
-use Rattle.bus_peers.proofs.Keeps.{with-here}
-use Rattle.bus_peers.proofs.Readies.{begun-still}
+use Rattle.bus_peers.proofs.OtherWiresStay.{with-here}
+use Rattle.bus_peers.proofs.NotReadyNotes.{begun-still}
 use Rattle.bus_peers.proofs.OtherWires.{unvisited}
-use Rattle.bus_peers.specs.Shows.{ShowsAsleep}
+use Rattle.bus_peers.specs.inside.Shows.{ShowsAsleep}
 use Rattle.bus_peers.proofs.StayShows.{failed-dial-shows, first-asleep-shows, first-over-shows, later-asleep-shows, later-over-shows}
 use Rattle.bus_peers.proofs.WholeVisits.{registered_at, stands-idle, first-question, first-visits-fail, first-visits-sleep, first-visits-end, later-visits-sleep, later-visits-end, stays-leave-places}
 
@@ -224,8 +224,8 @@ module _ (s : Session) (wire key : ℕ) (past : Pieces) (r0 r1 : Option (List Ev
     (built : s.deadline ≡ None) (shows : Shows past (map shown old.sources)) (stands : StandsIn talk b c)
     (came : course s (part wire (pieces.told past)) ≡ Some (stands_at s.party talk b c paused-so))
     (open_ : is_ended (outcome_in false (stands_at s.party talk b c paused-so).progress) ≡ false) where
-  again-ended : (e : Ended) (h h' : Held) (calls : List Event) (o : Option (List Event)) → Stayed wire key r0 r1 old new c (slot.Ended e) h h' calls o →
-      Goes s wire past r0 r1 old new (slot.Ended e) (calls ++ event.Delete wire key true ∷ [])
+  again-ended : (e : Ended) (h h' : Held) (calls : List Event) (o : Option (List Event)) → RegisteredVisit wire key r0 r1 old new c (slot.Ended e) h h' calls o →
+      VisitInRecord s wire past r0 r1 old new (slot.Ended e) (calls ++ event.Delete wire key true ∷ [])
   again-ended e h h' calls o x =
       let tail : List Event = event.Delete wire key true ∷ [] in
       let v : List Event = calls ++ tail in
@@ -241,7 +241,7 @@ module _ (s : Session) (wire key : ℕ) (past : Pieces) (r0 r1 : Option (List Ev
       let V : ℕ → Type 0 = λ k. Visit s wire past (calls ++ event.Delete wire k true ∷ []) in
       let G : ℕ → ℕ → Type 0 = λ w k. Shows (past ▸ visit w (calls ++ event.Delete w k true ∷ [])) (registry (map shown old.sources) (calls ++ event.Delete w k true ∷ [])) in
       let g : G h.wire h.key = later-over-shows past (map shown old.sources) h h' calls begin d.0 shows (ap (held_at (map shown old.sources)) source.0 ∙ x.was)
-          (subst (λ (w : ℕ). Converses w h begin calls h' None d.0) (sym x.wired) conv) in
+      (subst (λ (w : ℕ). Converses w h begin calls h' None d.0) (sym x.wired) conv) in
       record {
         gained = x.gained;
         visits = subst V source.0
@@ -265,9 +265,9 @@ module _ (s : Session) (wire key : ℕ) (past : Pieces) (r0 r1 : Option (List Ev
         };
       }
 
-  again-asleep : (sl : Sleeper) (h h' : Held) (calls : List Event) (o : Option (List Event)) (b' : List ℕ) → Stayed wire key r0 r1 old new c (slot.Asleep sl) h h' calls o →
+  again-asleep : (sl : Sleeper) (h h' : Held) (calls : List Event) (o : Option (List Event)) (b' : List ℕ) → RegisteredVisit wire key r0 r1 old new c (slot.Asleep sl) h h' calls o →
       Pauses talk b c sl.client calls b' → (arm : List Event) → o ≡ Some arm →
-      Goes s wire past r0 r1 old new (slot.Asleep sl) (calls ++ arms_told o)
+      VisitInRecord s wire past r0 r1 old new (slot.Asleep sl) (calls ++ arms_told o)
   again-asleep sl h h' calls o b' x goes arm is =
       let tail : List Event = arms_told o in
       let v : List Event = calls ++ tail in
@@ -283,7 +283,7 @@ module _ (s : Session) (wire key : ℕ) (past : Pieces) (r0 r1 : Option (List Ev
       let told-so : calls ++ arm ≡ v = ap (λ y. calls ++ arms_told y) (sym is) in
       let G : ℕ → Type 0 = λ w. ShowsAsleep (past ▸ visit w (calls ++ arm)) (registry (map shown old.sources) (calls ++ arm)) w h.key h' in
       let g : G h.wire = later-asleep-shows past (map shown old.sources) h h' calls arm begin end shows (ap (held_at (map shown old.sources)) source.0 ∙ x.was)
-          (subst (λ (w : ℕ). Converses w h begin calls h' (Some arm) end) (sym x.wired) conv) in
+      (subst (λ (w : ℕ). Converses w h begin calls h' (Some arm) end) (sym x.wired) conv) in
       let G' : List Event → Type 0 = λ y. Shows (past ▸ visit wire y) (registry (map shown old.sources) y) in
       let leaves : LeavesAsleep (here wire past) h' v = subst (LeavesAsleep (here wire past) h') told-so (stays-leave-places wire (here wire past) h h' calls arm begin end sides conv) in
       record {
@@ -316,6 +316,7 @@ module _ (s : Session) (wire key : ℕ) (past : Pieces) (r0 r1 : Option (List Ev
           };
         };
       }
+
 -- ---- a session that was not visited before
 
 -- the question that is asked
@@ -370,9 +371,9 @@ none-is (Some x) is = absurd (both_ways false refl is)
 pub built-late : (s : Session) → is_built s ≡ true → s.deadline ≡ None
 built-late s built = none-is s.deadline (and_parts (is_none s.deadline) (is_built_party s.party) built).0
 
-goes-undialled : (s : Session) (wire : ℕ) (past : Pieces) (r0 r1 : Option (List Event)) (old : Core) (asked : Question) → is_built s ≡ true → IsNew wire past → Rests old →
+goes-undialled : (s : Session) (wire : ℕ) (past : Pieces) (r0 r1 : Option (List Event)) (old : Core) (asked : Question) → is_built s ≡ true → IsNew wire past → IsBetweenCalls old →
     AsksFirst s asked → r1 ≡ told r0 (event.Dial wire asked dial_answer.Failed ∷ []) → Shows past (map shown old.sources) →
-    Goes s wire past r0 r1 old old (slot.Ended (record { ending = ending.Connection; written = []; leftover = []; wire = wire; moment = None })) (event.Dial wire asked dial_answer.Failed ∷ [])
+    VisitInRecord s wire past r0 r1 old old (slot.Ended (record { ending = ending.Connection; written = []; leftover = []; wire = wire; moment = None })) (event.Dial wire asked dial_answer.Failed ∷ [])
 goes-undialled s wire past r0 r1 old asked built new rests first gained shows =
     let dial : Event = event.Dial wire asked dial_answer.Failed in
     let v : List Event = dial ∷ [] in
@@ -456,7 +457,7 @@ module _ (s : Session) (wire key : ℕ) (past : Pieces) (asked : Question) (pass
       ap (course s) (heard v own mine)
       ∙ (course-more s (dial ∷ []) own
       ∙ (ap (λ x. goes_through x own) (course-dialled s wire asked (dial_answer.Opened passes) (opens (unix_wire passes)) first
-          (ap (λ b. if b then answered the_wire (dial_answer.Opened passes) else None) a.same))
+      (ap (λ b. if b then answered the_wire (dial_answer.Opened passes) else None) a.same))
       ∙ goes))
 
   comes-here : (v own : List Event) (d : Course) (o : Outcome) → part wire v ≡ own → goes_through (Some start) own ≡ Some d →
@@ -471,8 +472,8 @@ module _ (s : Session) (wire key : ℕ) (past : Pieces) (asked : Question) (pass
   others-opened w v other none = dial-other wire w asked (dial_answer.Opened passes) (add ∷ v) other ∙ none
 
   first-ended : (e : Ended) (h h' : Held) (calls : List Event) (o : Option (List Event)) →
-      Stayed wire key (told (told r0 (dial ∷ [])) (add ∷ [])) r1 mid new client (slot.Ended e) h h' calls o →
-      Goes s wire past r0 r1 old new (slot.Ended e) (opened-visit (calls ++ event.Delete wire key true ∷ []))
+      RegisteredVisit wire key (told (told r0 (dial ∷ [])) (add ∷ [])) r1 mid new client (slot.Ended e) h h' calls o →
+      VisitInRecord s wire past r0 r1 old new (slot.Ended e) (opened-visit (calls ++ event.Delete wire key true ∷ []))
   first-ended e h h' calls o x =
       let tail : List Event = event.Delete wire key true ∷ [] in
       let v : List Event = calls ++ tail in
@@ -511,9 +512,9 @@ module _ (s : Session) (wire key : ℕ) (past : Pieces) (asked : Question) (pass
       }
 
   first-asleep : (sl : Sleeper) (h h' : Held) (calls : List Event) (o : Option (List Event)) (b' : List ℕ) →
-      Stayed wire key (told (told r0 (dial ∷ [])) (add ∷ [])) r1 mid new client (slot.Asleep sl) h h' calls o → Pauses talk [] client sl.client calls b' →
+      RegisteredVisit wire key (told (told r0 (dial ∷ [])) (add ∷ [])) r1 mid new client (slot.Asleep sl) h h' calls o → Pauses talk [] client sl.client calls b' →
       (arm : List Event) → o ≡ Some arm →
-      Goes s wire past r0 r1 old new (slot.Asleep sl) (opened-visit (calls ++ arms_told o))
+      VisitInRecord s wire past r0 r1 old new (slot.Asleep sl) (opened-visit (calls ++ arms_told o))
   first-asleep sl h h' calls o b' x goes arm is =
       let tail : List Event = arms_told o in
       let v : List Event = calls ++ tail in
@@ -566,39 +567,39 @@ module _ (s : Session) (wire key : ℕ) (past : Pieces) (asked : Question) (pass
       }
 
   opened-found : (sl : Sleeper) (h h' : Held) (calls : List Event) (o : Option (List Event)) →
-      Stayed wire key (told (told r0 (dial ∷ [])) (add ∷ [])) r1 mid new client (slot.Asleep sl) h h' calls o → (b' : List ℕ) × Pauses talk [] client sl.client calls b' →
-      (arm : List Event) × (o ≡ Some arm) → (v : List Event) × Goes s wire past r0 r1 old new (slot.Asleep sl) v
+      RegisteredVisit wire key (told (told r0 (dial ∷ [])) (add ∷ [])) r1 mid new client (slot.Asleep sl) h h' calls o → (b' : List ℕ) × Pauses talk [] client sl.client calls b' →
+      (arm : List Event) × (o ≡ Some arm) → (v : List Event) × VisitInRecord s wire past r0 r1 old new (slot.Asleep sl) v
   opened-found sl h h' calls o x (b', goes) (arm, is) = (opened-visit (calls ++ arms_told o), first-asleep sl h h' calls o b' x goes arm is)
 
-  opened-goes : (c : Slot) → Stays wire key (told (told r0 (dial ∷ [])) (add ∷ [])) r1 mid new client c → (v : List Event) × Goes s wire past r0 r1 old new c v
+  opened-goes : (c : Slot) → MakesRegisteredVisit wire key (told (told r0 (dial ∷ [])) (add ∷ [])) r1 mid new client c → (v : List Event) × VisitInRecord s wire past r0 r1 old new c v
   opened-goes (slot.Ended e) (h, h', calls, o, x) = (opened-visit (calls ++ event.Delete wire key true ∷ []), first-ended e h h' calls o x)
   opened-goes (slot.Asleep sl) (h, h', calls, o, x) = opened-found sl h h' calls o x (x.stays.goes talk [] stands) (some-arms o x.stays.over)
   opened-goes slot.Refused (h, h', calls, o, x) = absurd x.stays
 
 -- ---- both
 
-pub goes-first : (s : Session) (wire : ℕ) (past : Pieces) (r0 r1 : Option (List Event)) (old new : Core) (c : Slot) → is_built s ≡ true → Shows past (map shown old.sources) → IsNew wire past → Rests old →
-    FirstVisits s wire r0 r1 old new c → (v : List Event) × Goes s wire past r0 r1 old new c v
+pub goes-first : (s : Session) (wire : ℕ) (past : Pieces) (r0 r1 : Option (List Event)) (old new : Core) (c : Slot) → is_built s ≡ true → Shows past (map shown old.sources) → IsNew wire past → IsBetweenCalls old →
+    FirstVisits s wire r0 r1 old new c → (v : List Event) × VisitInRecord s wire past r0 r1 old new c v
 goes-first s wire past r0 r1 old new c built shows fresh rests (visited.undialled asked e first gained still is says) =
     let dial : Event = event.Dial wire asked dial_answer.Failed in
-    let went : Goes s wire past r0 r1 old old (slot.Ended (record { ending = ending.Connection; written = []; leftover = []; wire = wire; moment = None })) (dial ∷ []) =
+    let went : VisitInRecord s wire past r0 r1 old old (slot.Ended (record { ending = ending.Connection; written = []; leftover = []; wire = wire; moment = None })) (dial ∷ []) =
     goes-undialled s wire past r0 r1 old asked built fresh rests first gained shows in
-    let Q : Slot → Type 0 = λ y. Goes s wire past r0 r1 old old y (dial ∷ []) in
-    let R : Core → Type 0 = λ x. Goes s wire past r0 r1 old x c (dial ∷ []) in
+    let Q : Slot → Type 0 = λ y. VisitInRecord s wire past r0 r1 old old y (dial ∷ []) in
+    let R : Core → Type 0 = λ x. VisitInRecord s wire past r0 r1 old x c (dial ∷ []) in
     (dial ∷ [], subst R (sym still) (subst Q (sym (is ∙ ap (λ y. slot.Ended y) says)) went))
 goes-first s wire past r0 r1 old new c built shows fresh rests (visited.dialled asked passes first (talk, client, key, mid, r)) =
     opened-goes s wire key past asked passes r0 r1 old mid new talk client built fresh shows first r.begins r.stands r.unwritten r.free r.core r.shows c r.stays
 
 again-found : (s : Session) (wire key : ℕ) (past : Pieces) (r0 r1 : Option (List Event)) (old new : Core) (c : Opening) (talk : List (List ℕ) → Said) (b : List ℕ) (paused-so : Option Dir) (sl : Sleeper) (h h' : Held)
     (calls : List Event) (o : Option (List Event)) → s.deadline ≡ None → Shows past (map shown old.sources) → StandsIn talk b c → course s (part wire (pieces.told past)) ≡ Some (stands_at s.party talk b c paused-so) →
-    is_ended (outcome_in false (stands_at s.party talk b c paused-so).progress) ≡ false → Stayed wire key r0 r1 old new c (slot.Asleep sl) h h' calls o →
-    (b' : List ℕ) × Pauses talk b c sl.client calls b' → (arm : List Event) × (o ≡ Some arm) → (v : List Event) × Goes s wire past r0 r1 old new (slot.Asleep sl) v
+    is_ended (outcome_in false (stands_at s.party talk b c paused-so).progress) ≡ false → RegisteredVisit wire key r0 r1 old new c (slot.Asleep sl) h h' calls o →
+    (b' : List ℕ) × Pauses talk b c sl.client calls b' → (arm : List Event) × (o ≡ Some arm) → (v : List Event) × VisitInRecord s wire past r0 r1 old new (slot.Asleep sl) v
 again-found s wire key past r0 r1 old new c talk b paused-so sl h h' calls o built shows stands came open_ x (b', goes) (arm, is) =
     (calls ++ arms_told o, again-asleep s wire key past r0 r1 old new c talk b paused-so built shows stands came open_ sl h h' calls o b' x goes arm is)
 
 again-by : (s : Session) (wire key : ℕ) (past : Pieces) (r0 r1 : Option (List Event)) (old new : Core) (c : Opening) (talk : List (List ℕ) → Said) (b : List ℕ) (paused-so : Option Dir) (c' : Slot) → s.deadline ≡ None →
     Shows past (map shown old.sources) → StandsIn talk b c → course s (part wire (pieces.told past)) ≡ Some (stands_at s.party talk b c paused-so) →
-    is_ended (outcome_in false (stands_at s.party talk b c paused-so).progress) ≡ false → Stays wire key r0 r1 old new c c' → (v : List Event) × Goes s wire past r0 r1 old new c' v
+    is_ended (outcome_in false (stands_at s.party talk b c paused-so).progress) ≡ false → MakesRegisteredVisit wire key r0 r1 old new c c' → (v : List Event) × VisitInRecord s wire past r0 r1 old new c' v
 again-by s wire key past r0 r1 old new c talk b paused-so (slot.Ended e) built shows stands came open_ (h, h', calls, o, x) =
     (calls ++ event.Delete wire key true ∷ [], again-ended s wire key past r0 r1 old new c talk b paused-so built shows stands came open_ e h h' calls o x)
 again-by s wire key past r0 r1 old new c talk b paused-so (slot.Asleep sl) built shows stands came open_ (h, h', calls, o, x) =
@@ -606,7 +607,7 @@ again-by s wire key past r0 r1 old new c talk b paused-so (slot.Asleep sl) built
 again-by s wire key past r0 r1 old new c talk b paused-so slot.Refused built shows stands came open_ (h, h', calls, o, x) = absurd x.stays
 
 pub goes-again : (s : Session) (wire : ℕ) (past : Pieces) (r0 r1 : Option (List Event)) (old new : Core) (sl : Sleeper) (pending : List ℕ) (c : Slot) → is_built s ≡ true → Shows past (map shown old.sources) →
-    Stands s wire pending past (slot.Asleep sl) → Stays wire sl.key r0 r1 old new sl.client c → (v : List Event) × Goes s wire past r0 r1 old new c v
+    Stands s wire pending past (slot.Asleep sl) → MakesRegisteredVisit wire sl.key r0 r1 old new sl.client c → (v : List Event) × VisitInRecord s wire past r0 r1 old new c v
 goes-again s wire past r0 r1 old new sl pending c built shows is stays =
     let begin : Course = stands_at s.party is.talking.talk is.talking.got sl.client (Some is.talking.dir) in
     let late : has_reached s.deadline (moment wire past) ≡ false = none-reached s.deadline (moment wire past) (built-late s built) in

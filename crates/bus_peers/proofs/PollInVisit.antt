@@ -14,20 +14,20 @@ use Rattle.bus_opening.specs.declared.verdict.Verdict.TheVariants as verdict
 use Rattle.bus_opening.specs.declared.verdict.Step.{Step}
 use Rattle.bus_opening.specs.declared.verdict.Step.TheVariants as step
 use Rattle.bus_session.specs.declared.ended.Ending.{Ending}
-use Rattle.bus_peers.specs.declared.visiting.Turn.{Turn}
-use Rattle.bus_peers.specs.declared.visiting.Turn.TheVariants as turn
+use Rattle.bus_peers.specs.declared.visiting.PollEnd.{PollEnd}
+use Rattle.bus_peers.specs.declared.visiting.PollEnd.TheVariants as poll_end
 use Rattle.bus_session.specs.Parts.{part}
 use Rattle.bus_session.specs.Alone.{goes_through, outcome_of}
 use Rattle.bus_peers.specs.Headline.{after_begun}
-use Rattle.bus_peers.specs.Registry.{Held, Side, Idle, Waits, Reported, stopped, waits, side_held, stopped_held, held_at, registry}
-use Rattle.bus_peers.specs.Asking.{asks, begins, arms_at}
+use Rattle.bus_peers.specs.inside.Registry.{Held, Side, Idle, Waits, Reported, stopped, waits, side_held, stopped_held, held_at, registry}
+use Rattle.bus_peers.specs.inside.Asking.{asks, begins, arms_at}
 use Rattle.bus_peers.specs.Counts.{waits_in}
-use Rattle.bus_peers.specs.Shown.{Rests, shown, Tags, tags}
-use Rattle.bus_peers.specs.Visited.{is_awake, ending_of, KeepsCall, Holds, arms_told, asks_again, Readied, stands_at, GoesOn, TurnsTo, Turns, may_ask, OnAgain}
-use Rattle.bus_peers.proofs.Talks.{registry-append, asks-append, goes-append, waits_in-append, AreCalls-append, stop_step, EndedBy, StoppedBy, poll-waits, poll-ended, poll-stopped}
-use Rattle.bus_peers.proofs.Readies.{stopped-wire}
-use Rattle.bus_peers.proofs.Keeps.{noted-keeps}
-use Rattle.bus_peers.proofs.Armings.{arming-quiet, arming-apart, arming-waits}
+use Rattle.bus_peers.specs.inside.Shown.{IsBetweenCalls, shown, Tags, tags}
+use Rattle.bus_peers.specs.inside.Visited.{is_awake, ending_of, KeepsCall, Holds, arms_told, asks_again, NotReadyNoted, stands_at, GoesOn, PollEndsAs, VisitPolls, may_ask, OnAgain}
+use Rattle.bus_peers.proofs.PollInRecord.{registry-append, asks-append, goes-append, waits_in-append, AreCalls-append, stop_step, EndedBy, StoppedBy, poll-waits, poll-ended, poll-stopped}
+use Rattle.bus_peers.proofs.NotReadyNotes.{stopped-wire}
+use Rattle.bus_peers.proofs.OtherWiresStay.{noted-keeps}
+use Rattle.bus_peers.proofs.ArmingFacts.{arming-quiet, arming-apart, arming-waits}
 
 -- ---- what was told so far, at a refusal
 
@@ -52,7 +52,7 @@ keeps-after expected r0 r1 r2 old mid new first gained none ticker made (more, k
   },
 )
 
-pub keeps-poll : (wire : ℕ) (r0 r1 : Option (List Event)) (core : Core) (c c' : Opening) (answer : Step) → Rests core → Polls Opening StandsIn written_of wire c c' r0 r1 answer → KeepsCall (tags core.sources) r0 r1 core core
+pub keeps-poll : (wire : ℕ) (r0 r1 : Option (List Event)) (core : Core) (c c' : Opening) (answer : Step) → IsBetweenCalls core → Polls Opening StandsIn written_of wire c c' r0 r1 answer → KeepsCall (tags core.sources) r0 r1 core core
 keeps-poll wire r0 r1 core c c' answer rests polls = (
   polls.events ++ polls.final,
   record {
@@ -84,8 +84,8 @@ none-begun n fits = omega arith
 more-begun : (x y z n : ℕ) → y ≡ after_begun x 0 → z ≡ after_begun y n → z ≡ after_begun x n
 more-begun x y z n e f = omega arith
 
-ended-turn : (wire key : ℕ) (r0 r1 : Option (List Event)) (core : Core) (c c' : Opening) (v : Verdict) (calls : List Event) → Holds core key wire → Rests core → EndedBy wire r0 r1 c c' v calls →
-    Turns wire key r0 r1 core core c c' (turn.Over (ending_of v))
+ended-turn : (wire key : ℕ) (r0 r1 : Option (List Event)) (core : Core) (c c' : Opening) (v : Verdict) (calls : List Event) → Holds core key wire → IsBetweenCalls core → EndedBy wire r0 r1 c c' v calls →
+    VisitPolls wire key r0 r1 core core c c' (poll_end.Over (ending_of v))
 ended-turn wire key r0 r1 core c c' v calls (h, at, own) rests es = (
   h,
   h,
@@ -113,10 +113,10 @@ ended-turn wire key r0 r1 core c c' v calls (h, at, own) rests es = (
   },
 )
 
-pub turned-over : (wire key : ℕ) (r0 r1 : Option (List Event)) (core : Core) (c c' : Opening) (v : Verdict) (e : Ending) → Holds core key wire → Rests core →
-    Polls Opening StandsIn written_of wire c c' r0 r1 (step.Done v) → Leaves Opening StandsIn written_of rest_of c' (step.Done v) → e ≡ ending_of v → Turns wire key r0 r1 core core c c' (turn.Over e)
+pub turned-over : (wire key : ℕ) (r0 r1 : Option (List Event)) (core : Core) (c c' : Opening) (v : Verdict) (e : Ending) → Holds core key wire → IsBetweenCalls core →
+    Polls Opening StandsIn written_of wire c c' r0 r1 (step.Done v) → Leaves Opening StandsIn written_of rest_of c' (step.Done v) → e ≡ ending_of v → VisitPolls wire key r0 r1 core core c c' (poll_end.Over e)
 turned-over wire key r0 r1 core c c' v e holds rests polls leaves is =
-    subst (λ x. Turns wire key r0 r1 core core c c' (turn.Over x)) (sym is) (ended-turn wire key r0 r1 core c c' v (polls.events ++ polls.final) holds rests (poll-ended wire r0 r1 c c' v polls leaves))
+    subst (λ x. VisitPolls wire key r0 r1 core core c c' (poll_end.Over x)) (sym is) (ended-turn wire key r0 r1 core c c' v (polls.events ++ polls.final) holds rests (poll-ended wire r0 r1 c c' v polls leaves))
 
 -- ---- a turn that stops
 
@@ -140,17 +140,17 @@ side-stopped Read h = refl
 side-stopped Write h = refl
 
 -- how the turn ends, by how the direction stood
-turn-cases : (dir : Dir) (c c' : Opening) (calls : List Event) (h : Held) (t : Turn) (b : Side) → t ≡ (if asks_again (arms_at dir h b) then turn.Again else turn.Asleep) →
-    c'.ended ≡ false → GoesOn c c' calls → TurnsTo c c' calls (arms_at dir h b) (stopped_held dir h) t
+turn-cases : (dir : Dir) (c c' : Opening) (calls : List Event) (h : Held) (t : PollEnd) (b : Side) → t ≡ (if asks_again (arms_at dir h b) then poll_end.Again else poll_end.Asleep) →
+    c'.ended ≡ false → GoesOn c c' calls → PollEndsAs c c' calls (arms_at dir h b) (stopped_held dir h) t
 turn-cases dir c c' calls h t Idle is open_ goes =
-    let o : Option (List Event) = arms_at dir h Idle in subst (λ x. TurnsTo c c' calls o (stopped_held dir h) x) (sym is) (refl, open_, goes)
+    let o : Option (List Event) = arms_at dir h Idle in subst (λ x. PollEndsAs c c' calls o (stopped_held dir h) x) (sym is) (refl, open_, goes)
 turn-cases dir c c' calls h t Waits is open_ goes =
-    let o : Option (List Event) = arms_at dir h Waits in subst (λ x. TurnsTo c c' calls o (stopped_held dir h) x) (sym is) (refl, open_, goes)
+    let o : Option (List Event) = arms_at dir h Waits in subst (λ x. PollEndsAs c c' calls o (stopped_held dir h) x) (sym is) (refl, open_, goes)
 turn-cases dir c c' calls h t Reported is open_ goes =
-    let o : Option (List Event) = arms_at dir h Reported in subst (λ x. TurnsTo c c' calls o (stopped_held dir h) x) (sym is) (refl, open_, goes)
+    let o : Option (List Event) = arms_at dir h Reported in subst (λ x. PollEndsAs c c' calls o (stopped_held dir h) x) (sym is) (refl, open_, goes)
 
-stopped-turn : (wire key : ℕ) (dir : Dir) (r0 r1 r2 : Option (List Event)) (old new : Core) (c c' : Opening) (again : Bool) (t : Turn) (calls : List Event) (h : Held) →
-    StoppedBy wire dir r0 r1 c c' calls → c'.ended ≡ false → Readied wire key dir r1 r2 old new again h → t ≡ (if again then turn.Again else turn.Asleep) → Turns wire key r0 r2 old new c c' t
+stopped-turn : (wire key : ℕ) (dir : Dir) (r0 r1 r2 : Option (List Event)) (old new : Core) (c c' : Opening) (again : Bool) (t : PollEnd) (calls : List Event) (h : Held) →
+    StoppedBy wire dir r0 r1 c c' calls → c'.ended ≡ false → NotReadyNoted wire key dir r1 r2 old new again h → t ≡ (if again then poll_end.Again else poll_end.Asleep) → VisitPolls wire key r0 r2 old new c c' t
 stopped-turn wire key dir r0 r1 r2 old new c c' again t calls h es open_ r is =
     let o : Option (List Event) = arms_at dir h (side_held dir h) in (
       h,
@@ -175,24 +175,24 @@ stopped-turn wire key dir r0 r1 r2 old new c c' again t calls h es open_ r is =
         made = r.made;
         begun = r.begun;
         tags = r.tags;
-        turned = turn-cases dir c c' calls h t (side_held dir h) (is ∙ ap (λ x. if x then turn.Again else turn.Asleep) r.again_so) open_ es.goes;
+        turned = turn-cases dir c c' calls h t (side_held dir h) (is ∙ ap (λ x. if x then poll_end.Again else poll_end.Asleep) r.again_so) open_ es.goes;
       },
     )
 
-pub turned-stop : (wire key : ℕ) (dir : Dir) (r0 r1 r2 : Option (List Event)) (old new : Core) (c c' : Opening) (again : Bool) (t : Turn) →
+pub turned-stop : (wire key : ℕ) (dir : Dir) (r0 r1 r2 : Option (List Event)) (old new : Core) (c c' : Opening) (again : Bool) (t : PollEnd) →
     Polls Opening StandsIn written_of wire c c' r0 r1 (stop_step dir) → Leaves Opening StandsIn written_of rest_of c' (stop_step dir) → c'.ended ≡ false →
-    (h : Held) × Readied wire key dir r1 r2 old new again h → t ≡ (if again then turn.Again else turn.Asleep) → Turns wire key r0 r2 old new c c' t
+    (h : Held) × NotReadyNoted wire key dir r1 r2 old new again h → t ≡ (if again then poll_end.Again else poll_end.Asleep) → VisitPolls wire key r0 r2 old new c c' t
 turned-stop wire key dir r0 r1 r2 old new c c' again t polls leaves open_ (h, r) is =
     stopped-turn wire key dir r0 r1 r2 old new c c' again t (polls.events ++ polls.final) h (poll-stopped wire r0 r1 c c' dir polls leaves) open_ r is
 
 -- a stop that asks again leaves less to ask
-onward_go : (dir : Dir) (h : Held) (b : Side) → side_held dir h ≡ b → OnAgain (may_ask (Some (stopped_held dir h))) (may_ask (Some h)) (if asks_again (arms_at dir h b) then turn.Again else turn.Asleep)
+onward_go : (dir : Dir) (h : Held) (b : Side) → side_held dir h ≡ b → OnAgain (may_ask (Some (stopped_held dir h))) (may_ask (Some h)) (if asks_again (arms_at dir h b) then poll_end.Again else poll_end.Asleep)
 onward_go dir h Idle e = tt {0}
 onward_go dir h Waits e = tt {0}
 onward_go Read h Reported e = rw e (omega arith)
 onward_go Write h Reported e = rw e (omega arith)
 
-pub readied-onward : (wire key : ℕ) (dir : Dir) (r1 r2 : Option (List Event)) (old new : Core) (again : Bool) (t : Turn) → (h : Held) × Readied wire key dir r1 r2 old new again h → t ≡ (if again then turn.Again else turn.Asleep) →
+pub readied-onward : (wire key : ℕ) (dir : Dir) (r1 r2 : Option (List Event)) (old new : Core) (again : Bool) (t : PollEnd) → (h : Held) × NotReadyNoted wire key dir r1 r2 old new again h → t ≡ (if again then poll_end.Again else poll_end.Asleep) →
     OnAgain (may_ask (held_at (map shown new.sources) key)) (may_ask (held_at (map shown old.sources) key)) t
 readied-onward wire key dir r1 r2 old new again t (h, r) is = rw (r.now, r.was, is, r.again_so) (onward_go dir h (side_held dir h) refl)
 
@@ -212,8 +212,8 @@ GoesOn-more c c1 c2 es es2 first next = λ talk b stands.
       },
     )
 
-TurnsTo-more : (c c1 c2 : Opening) (es es2 : List Event) (o : Option (List Event)) (h : Held) (t : Turn) → GoesOn c c1 es → TurnsTo c1 c2 es2 o h t → TurnsTo c c2 (es ++ es2) o h t
-TurnsTo-more c c1 c2 es es2 o h (turn.Over e) goes (none, awake, ends) = (
+TurnsTo-more : (c c1 c2 : Opening) (es es2 : List Event) (o : Option (List Event)) (h : Held) (t : PollEnd) → GoesOn c c1 es → PollEndsAs c1 c2 es2 o h t → PollEndsAs c c2 (es ++ es2) o h t
+TurnsTo-more c c1 c2 es es2 o h (poll_end.Over e) goes (none, awake, ends) = (
   none,
   awake,
   λ talk b paused p late stands.
@@ -221,14 +221,14 @@ TurnsTo-more c c1 c2 es es2 o h (turn.Over e) goes (none, awake, ends) = (
       ap (option_and_then (outcome_of late)) (goes-append (Some (stands_at p talk b c paused)) es es2 ∙ ap (λ t. goes_through t es2) (one.1.through paused p))
       ∙ ends talk one.0 (Some one.1.dir) p late one.1.stands,
 )
-TurnsTo-more c c1 c2 es es2 o h turn.Again goes (none, open_, more) = (none, open_, GoesOn-more c c1 c2 es es2 goes more)
-TurnsTo-more c c1 c2 es es2 o h turn.Asleep goes (some, open_, more) = (some, open_, GoesOn-more c c1 c2 es es2 goes more)
+TurnsTo-more c c1 c2 es es2 o h poll_end.Again goes (none, open_, more) = (none, open_, GoesOn-more c c1 c2 es es2 goes more)
+TurnsTo-more c c1 c2 es es2 o h poll_end.Asleep goes (some, open_, more) = (some, open_, GoesOn-more c c1 c2 es es2 goes more)
 
 assoc_arms : (es es2 ms : List Event) → (es ++ []) ++ (es2 ++ ms) ≡ (es ++ es2) ++ ms
 assoc_arms es es2 ms = ap (λ x. x ++ (es2 ++ ms)) (append-nil es) ∙ sym (append_assoc es es2 ms)
 
-pub turns-more : (wire key : ℕ) (r0 r1 r2 : Option (List Event)) (old mid new : Core) (c c1 c2 : Opening) (t : Turn) →
-    Turns wire key r0 r1 old mid c c1 turn.Again → Turns wire key r1 r2 mid new c1 c2 t → Turns wire key r0 r2 old new c c2 t
+pub turns-more : (wire key : ℕ) (r0 r1 r2 : Option (List Event)) (old mid new : Core) (c c1 c2 : Opening) (t : PollEnd) →
+    VisitPolls wire key r0 r1 old mid c c1 poll_end.Again → VisitPolls wire key r1 r2 mid new c1 c2 t → VisitPolls wire key r0 r2 old new c c2 t
 turns-more wire key r0 r1 r2 old mid new c c1 c2 t (h, h', es, o, a) (k, k', es2, o2, b) =
     let e : Some k ≡ Some h' = sym b.was ∙ a.now in
     let same : k ≡ h' = cc in
@@ -261,18 +261,18 @@ turns-more wire key r0 r1 r2 old mid new c c1 c2 t (h, h', es, o, a) (k, k', es2
       },
     )
 
-pub keeps-turns : (expected : Tags) (wire key : ℕ) (r0 r1 r2 : Option (List Event)) (old mid new : Core) (c c' : Opening) (t : Turn) →
-    Turns wire key r0 r1 old mid c c' t → KeepsCall expected r1 r2 mid new → KeepsCall expected r0 r2 old new
+pub keeps-turns : (expected : Tags) (wire key : ℕ) (r0 r1 r2 : Option (List Event)) (old mid new : Core) (c c' : Opening) (t : PollEnd) →
+    VisitPolls wire key r0 r1 old mid c c' t → KeepsCall expected r1 r2 mid new → KeepsCall expected r0 r2 old new
 keeps-turns expected wire key r0 r1 r2 old mid new c c' t (h, h', es, o, a) kept = keeps-after expected r0 r1 r2 old mid new (es ++ arms_told o) a.gained a.waits a.ticker a.made kept
 
 -- some turns that each asked again, or none so far
 abbrev pub Turning : ℕ → ℕ → Option (List Event) → Option (List Event) → Core → Core → Opening → Opening → Type 0
-Turning wire key r0 r1 old new c c' = ((r1 ≡ r0) × (new ≡ old) × (c' ≡ c)) ⊎ Turns wire key r0 r1 old new c c' turn.Again
+Turning wire key r0 r1 old new c c' = ((r1 ≡ r0) × (new ≡ old) × (c' ≡ c)) ⊎ VisitPolls wire key r0 r1 old new c c' poll_end.Again
 
-pub turning-more : (wire key : ℕ) (r0 r1 r2 : Option (List Event)) (old mid new : Core) (c c1 c2 : Opening) (t : Turn) →
-    Turning wire key r0 r1 old mid c c1 → Turns wire key r1 r2 mid new c1 c2 t → Turns wire key r0 r2 old new c c2 t
+pub turning-more : (wire key : ℕ) (r0 r1 r2 : Option (List Event)) (old mid new : Core) (c c1 c2 : Opening) (t : PollEnd) →
+    Turning wire key r0 r1 old mid c c1 → VisitPolls wire key r1 r2 mid new c1 c2 t → VisitPolls wire key r0 r2 old new c c2 t
 turning-more wire key r0 r1 r2 old mid new c c1 c2 t (inl (r, core, client)) turns =
-    subst (λ x. Turns wire key r0 r2 x new c c2 t) core (subst (λ x. Turns wire key x r2 mid new c c2 t) r (subst (λ x. Turns wire key r1 r2 mid new x c2 t) client turns))
+    subst (λ x. VisitPolls wire key r0 r2 x new c c2 t) core (subst (λ x. VisitPolls wire key x r2 mid new c c2 t) r (subst (λ x. VisitPolls wire key r1 r2 mid new x c2 t) client turns))
 turning-more wire key r0 r1 r2 old mid new c c1 c2 t (inr first) turns = turns-more wire key r0 r1 r2 old mid new c c1 c2 t first turns
 
 pub turning-keeps : (wire key : ℕ) (r0 r1 r2 : Option (List Event)) (old mid new : Core) (c c1 : Opening) → Turning wire key r0 r1 old mid c c1 → KeepsCall (tags mid.sources) r1 r2 mid new → KeepsCall (tags old.sources) r0 r2 old new
@@ -280,14 +280,14 @@ turning-keeps wire key r0 r1 r2 old mid new c c1 (inl (r, core, client)) kept =
     subst (λ x. KeepsCall (tags x.sources) r0 r2 x new) core (subst (λ x. KeepsCall (tags mid.sources) x r2 mid new) r kept)
 turning-keeps wire key r0 r1 r2 old mid new c c1 (inr (h, h', es, o, a)) kept =
     let kept' : KeepsCall (tags old.sources) r1 r2 mid new = subst (λ x. KeepsCall x r1 r2 mid new) a.tags kept in
-    keeps-turns (tags old.sources) wire key r0 r1 r2 old mid new c c1 turn.Again (h, h', es, o, a) kept'
+    keeps-turns (tags old.sources) wire key r0 r1 r2 old mid new c c1 poll_end.Again (h, h', es, o, a) kept'
 
 pub turning-holds : (wire key : ℕ) (r0 r1 : Option (List Event)) (old mid : Core) (c c1 : Opening) → Holds old key wire → Turning wire key r0 r1 old mid c c1 → Holds mid key wire
 turning-holds wire key r0 r1 old mid c c1 holds (inl (r, core, client)) = subst (λ x. Holds x key wire) (sym core) holds
 turning-holds wire key r0 r1 old mid c c1 holds (inr (h, h', es, o, a)) = (h', a.now, a.wired')
 
-pub turning-rests : (wire key : ℕ) (r0 r1 : Option (List Event)) (old mid : Core) (c c1 : Opening) → Rests old → Turning wire key r0 r1 old mid c c1 → Rests mid
-turning-rests wire key r0 r1 old mid c c1 rests (inl (r, core, client)) = subst Rests (sym core) rests
+pub turning-rests : (wire key : ℕ) (r0 r1 : Option (List Event)) (old mid : Core) (c c1 : Opening) → IsBetweenCalls old → Turning wire key r0 r1 old mid c c1 → IsBetweenCalls mid
+turning-rests wire key r0 r1 old mid c c1 rests (inl (r, core, client)) = subst IsBetweenCalls (sym core) rests
 turning-rests wire key r0 r1 old mid c c1 rests (inr (h, h', es, o, a)) = a.rests
 
 pub turning-open : (wire key : ℕ) (r0 r1 : Option (List Event)) (old mid : Core) (c c1 : Opening) → c.ended ≡ false → Turning wire key r0 r1 old mid c c1 → c1.ended ≡ false

@@ -15,10 +15,10 @@ use Rattle.bus_peers.specs.declared.visiting.Slot.{Slot}
 use Rattle.bus_peers.specs.declared.visiting.Slot.TheVariants as slot
 use Rattle.bus_peers.specs.declared.open.OpenError.{OpenError}
 use Rattle.bus_peers.specs.declared.open.OpenError.TheVariants as open_err
-use Rattle.bus_peers.specs.RoundEvents.{Round, IsRound, round_told}
-use Rattle.bus_peers.specs.Registry.{Held, registry, rearming}
-use Rattle.bus_peers.specs.Due.{AreDue}
-use Rattle.bus_peers.specs.Shown.{Rests, shown, Tags, has_wire}
+use Rattle.bus_peers.specs.inside.RoundEvents.{Round, IsRound, round_told}
+use Rattle.bus_peers.specs.inside.Registry.{Held, registry, rearming}
+use Rattle.bus_peers.specs.inside.Due.{AreDue}
+use Rattle.bus_peers.specs.inside.Shown.{IsBetweenCalls, shown, Tags, has_wire}
 
 -- a task stands behind those that were woken before, unless memory ran out
 abbrev pub WokenBy : Woken → ℕ → Woken → Type 0
@@ -34,7 +34,7 @@ pub record Rounded (before after : Option (List Event)) (old new : Core) (woken 
   pub gained : after ≡ told before (round_events (map shown old.sources) r)
   pub shows : registry (map shown old.sources) (round_events (map shown old.sources) r) ≡ map shown new.sources
   pub due : AreDue (map shown old.sources) (reports_of r.answer) woken
-  pub rests : Rests new
+  pub rests : IsBetweenCalls new
   pub ticker : new.ticker ≡ old.ticker + 1
   pub made : new.made ≡ old.made
   pub begun : new.begun ≡ old.begun

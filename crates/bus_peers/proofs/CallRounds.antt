@@ -23,26 +23,26 @@ use Rattle.bus_peers.specs.declared.open.OpenError.TheVariants as open_err
 use Rattle.bus_peers.specs.declared.visiting.Slot.{Slot}
 use Rattle.bus_peers.specs.declared.visiting.Slot.TheVariants as slot
 use Rattle.bus_peers.specs.Counts.{waits_in}
-use Rattle.bus_peers.specs.Due.{is_in, is_due, due_at, AreDue}
-use Rattle.bus_peers.specs.Rounds.{round_events}
-use Rattle.bus_peers.specs.Registry.{Held, held_at, reported_held, after_report_held, after_reports_held, registry, rearming_of}
-use Rattle.bus_peers.specs.Registry as registry_of
-use Rattle.bus_peers.specs.RoundEvents.{Round, round_told, reading_told}
-use Rattle.bus_peers.specs.Shows.{Shows}
-use Rattle.bus_peers.specs.Shown.{Rests, shown, Tags, tags, has_wire}
-use Rattle.bus_peers.specs.Rounds.{Rounded, HaveWires, OnExhausted}
-use Rattle.bus_peers.specs.Slots.{Owned, AllBuilt, Stands, AllStand, IsNew, Going, Went, GoesFrom, GoesRound, GoesRounds, Rested, Told, Halted, Stuck}
-use Rattle.bus_peers.proofs.Armings.{arming-waits}
-use Rattle.bus_peers.proofs.Talks.{waits_in-append}
+use Rattle.bus_peers.specs.inside.Due.{is_in, is_due, due_at, AreDue}
+use Rattle.bus_peers.specs.inside.Rounds.{round_events}
+use Rattle.bus_peers.specs.inside.Registry.{Held, held_at, reported_held, after_report_held, after_reports_held, registry, rearming_of}
+use Rattle.bus_peers.specs.inside.Registry as registry_of
+use Rattle.bus_peers.specs.inside.RoundEvents.{Round, round_told, reading_told}
+use Rattle.bus_peers.specs.inside.Shows.{Shows}
+use Rattle.bus_peers.specs.inside.Shown.{IsBetweenCalls, shown, Tags, tags, has_wire}
+use Rattle.bus_peers.specs.inside.Rounds.{Rounded, HaveWires, OnExhausted}
+use Rattle.bus_peers.specs.inside.Slots.{Owned, AllBuilt, Stands, AllStand, IsNew, CallStands, CallStandsAfter, VisitsKeepCall, RoundKeepsCall, RoundsSettleCall, CallSettled, Told, CallHalted, Stuck}
+use Rattle.bus_peers.proofs.ArmingFacts.{arming-waits}
+use Rattle.bus_peers.proofs.PollInRecord.{waits_in-append}
 use Rattle.bus_peers.proofs.RoundLemmas.{round-held, round-apart}
-use Rattle.bus_peers.proofs.GoesLemmas.{part-quiet}
+use Rattle.bus_peers.proofs.VisitsInRecord.{part-quiet}
 use Rattle.bus_peers.proofs.Standing.{Still, WaitsOn, stands-move, stand-at, stand-move, whole, sleeps-now, all-rest}
 use Rattle.bus_peers.proofs.Sleepers.{sleepers-none, sleepers-some}
 use Rattle.bus_peers.proofs.SlotLemmas.{test-at, asleep-at}
 use Rattle.bus_peers.proofs.RoundRearms.{rearming-same}
-use Rattle.bus_peers.specs.Due.{NoDeadlines}
+use Rattle.bus_peers.specs.inside.Due.{NoDeadlines}
 use Rattle.bus_peers.proofs.WholeRounds.{rounds-show, woken-are-due, due-wires-are-same, rounds-are-rounds}
-use Rattle.bus_peers.proofs.GoesLemmas.{built-late}
+use Rattle.bus_peers.proofs.VisitsInRecord.{built-late}
 
 -- ---- a round
 
@@ -117,7 +117,6 @@ due-has (s ∷ sources) reports w due = has-go (or_cases ((s.1.wire == w) && is_
   has-go (inl a) ih = or_left (s.1.wire == w) (has_wire w (tags sources)) (and_parts (s.1.wire == w) (is_due reports (shown s)) a).0
   has-go (inr a) ih = or_right (s.1.wire == w) (has_wire w (tags sources)) (ih a)
 
-
 -- ---- a round
 
 -- each session that a round makes due sleeps
@@ -138,8 +137,8 @@ round-moves w past p woken due dir (inl up) = on (reports dir w past p) refl (wa
   on b is (inr rep) = inr (due (woken-by dir w past p up (is ∙ rep)))
 
 round-more : (sessions : List Session) (rounds n : ℕ) (begin : Core) (before r0 r1 : Option (List Event)) (old new : Core) (slots : List Slot) (woken : List ℕ) (r : Round) (past : Pieces) → AllBuilt sessions →
-    length slots ≡ length sessions → Owned slots (tags old.sources) → n < rounds → old.sources ≢ [] → rounds_in past ≡ n → Going sessions rounds [] begin before r0 old slots past → Rounded r0 r1 old new woken r →
-    Went sessions rounds woken (n + 1) begin before r1 new slots
+    length slots ≡ length sessions → Owned slots (tags old.sources) → n < rounds → old.sources ≢ [] → rounds_in past ≡ n → CallStands sessions rounds [] begin before r0 old slots past → Rounded r0 r1 old new woken r →
+    CallStandsAfter sessions rounds woken (n + 1) begin before r1 new slots
 round-more sessions rounds n begin before r0 r1 old new slots woken r past built len owned left some count g x =
     let held : List Held = map shown old.sources in
     let answered : List Report = reports_of r.answer in
@@ -171,14 +170,14 @@ round-more sessions rounds n begin before r0 r1 old new slots woken r past built
     )
 
 round-from : (sessions : List Session) (rounds n : ℕ) (begin : Core) (before r0 r1 : Option (List Event)) (old new : Core) (slots : List Slot) (woken : List ℕ) (r : Round) → AllBuilt sessions →
-    length slots ≡ length sessions → Owned slots (tags old.sources) → n < rounds → old.sources ≢ [] → Rounded r0 r1 old new woken r → Went sessions rounds [] n begin before r0 old slots →
-    Went sessions rounds woken (n + 1) begin before r1 new slots
+    length slots ≡ length sessions → Owned slots (tags old.sources) → n < rounds → old.sources ≢ [] → Rounded r0 r1 old new woken r → CallStandsAfter sessions rounds [] n begin before r0 old slots →
+    CallStandsAfter sessions rounds woken (n + 1) begin before r1 new slots
 round-from sessions rounds n begin before r0 r1 old new slots woken r built len owned left some x (past, count, g) =
     round-more sessions rounds n begin before r0 r1 old new slots woken r past built len owned left some count g x
 
 -- a round, and then the visits of those that it makes due
 pub going-round : (r0 r1 r2 : Option (List Event)) (old mid new : Core) (slots slots' : List Slot) (woken : List ℕ) → Owned slots (tags old.sources) → (r : Round) × Rounded r0 r1 old mid woken r →
-    GoesFrom woken [] r1 r2 mid new slots slots' → GoesRound r0 r2 old new slots slots'
+    VisitsKeepCall woken [] r1 r2 mid new slots slots' → RoundKeepsCall r0 r2 old new slots slots'
 going-round r0 r1 r2 old mid new slots slots' woken owned (r, x) visits = λ sessions rounds n begin before built len left some w.
     visits sessions rounds (n + 1) begin before built (round-from sessions rounds n begin before r0 r1 old mid slots woken r built len owned left some x w)
 
@@ -201,32 +200,32 @@ round-wires r0 r1 old new woken (r, x) same =
 -- ---- all rounds
 
 -- so many rounds came since the first visits
-abbrev pub GoesOnTo : ℕ → ℕ → Option (List Event) → Option (List Event) → Core → Core → List Slot → List Slot → Type 0
-GoesOnTo rounds n r0 r1 old new slots slots' = (sessions : List Session) (begin : Core) (before : Option (List Event)) → AllBuilt sessions → length slots ≡ length sessions →
-    Went sessions rounds [] 0 begin before r0 old slots → Went sessions rounds [] n begin before r1 new slots'
+abbrev pub RoundsKeepCall : ℕ → ℕ → Option (List Event) → Option (List Event) → Core → Core → List Slot → List Slot → Type 0
+RoundsKeepCall rounds n r0 r1 old new slots slots' = (sessions : List Session) (begin : Core) (before : Option (List Event)) → AllBuilt sessions → length slots ≡ length sessions →
+    CallStandsAfter sessions rounds [] 0 begin before r0 old slots → CallStandsAfter sessions rounds [] n begin before r1 new slots'
 
-pub rounds-none : (rounds : ℕ) (r : Option (List Event)) (core : Core) (slots : List Slot) → GoesOnTo rounds 0 r r core core slots slots
+pub rounds-none : (rounds : ℕ) (r : Option (List Event)) (core : Core) (slots : List Slot) → RoundsKeepCall rounds 0 r r core core slots slots
 rounds-none rounds r core slots = λ sessions begin before built len w. w
 
 pub rounds-more : (rounds n : ℕ) (r0 r1 r2 : Option (List Event)) (old mid new : Core) (slots slots' slots'' : List Slot) → length slots' ≡ length slots → n < rounds → mid.sources ≢ [] →
-    GoesOnTo rounds n r0 r1 old mid slots slots' → GoesRound r1 r2 mid new slots' slots'' → GoesOnTo rounds (n + 1) r0 r2 old new slots slots''
+    RoundsKeepCall rounds n r0 r1 old mid slots slots' → RoundKeepsCall r1 r2 mid new slots' slots'' → RoundsKeepCall rounds (n + 1) r0 r2 old new slots slots''
 rounds-more rounds n r0 r1 r2 old mid new slots slots' slots'' same left some went goes = λ sessions begin before built len w.
     goes sessions rounds n begin before built (same ∙ len) left some (went sessions begin before built len w)
 
 rested : (sessions : List Session) (rounds n : ℕ) (begin : Core) (before after : Option (List Event)) (core : Core) (slots : List Slot) → AllBuilt sessions → length slots ≡ length sessions → (n ≡ rounds) ⊎ (core.sources ≡ []) →
-    Went sessions rounds [] n begin before after core slots → (past : Pieces) × Rested sessions rounds begin before after core slots past
+    CallStandsAfter sessions rounds [] n begin before after core slots → (past : Pieces) × CallSettled sessions rounds begin before after core slots past
 rested sessions rounds n begin before after core slots built len (inl all) (past, count, g) =
     (past, record { going = g; rest = all-rest sessions slots past (map shown core.sources) len built g.shows g.stands; spent = inr (count ∙ all) })
 rested sessions rounds n begin before after core slots built len (inr none) (past, count, g) =
     (past, record { going = g; rest = all-rest sessions slots past (map shown core.sources) len built g.shows g.stands; spent = inl (no-sleeper sessions slots past core len g.shows g.stands none) })
 
 pub rounds-end : (rounds n : ℕ) (r0 r1 : Option (List Event)) (old new : Core) (slots slots' : List Slot) → length slots' ≡ length slots → (n ≡ rounds) ⊎ (new.sources ≡ []) →
-    GoesOnTo rounds n r0 r1 old new slots slots' → GoesRounds rounds r0 r1 old new slots slots'
+    RoundsKeepCall rounds n r0 r1 old new slots slots' → RoundsSettleCall rounds r0 r1 old new slots slots'
 rounds-end rounds n r0 r1 old new slots slots' same done went = λ sessions begin before built len w.
     rested sessions rounds n begin before r1 new slots' built (same ∙ len) done (went sessions begin before built len w)
 
 halted : (sessions : List Session) (rounds n : ℕ) (begin : Core) (before after : Option (List Event)) (core : Core) (slots : List Slot) → AllBuilt sessions → length slots ≡ length sessions → Owned slots (tags core.sources) →
-    n < rounds → core.sources ≢ [] → Went sessions rounds [] n begin before after core slots → (past : Pieces) × Halted sessions rounds begin before after core slots past
+    n < rounds → core.sources ≢ [] → CallStandsAfter sessions rounds [] n begin before after core slots → (past : Pieces) × CallHalted sessions rounds begin before after core slots past
 halted sessions rounds n begin before after core slots built len owned left some (past, count, g) = (
   past,
   record {
@@ -239,13 +238,13 @@ halted sessions rounds n begin before after core slots built len owned left some
 
 -- where the round's number ran out, the call stands where it stood
 pub rounds-stuck : {T : Type 0} (result : Result T OpenError) (rounds n : ℕ) (r0 r1 r2 : Option (List Event)) (old : Core) (mid new : ReactorState) (slots slots' slots'' : List Slot) → length slots' ≡ length slots →
-    Owned slots' (tags mid.core.sources) → n < rounds → mid.core.sources ≢ [] → GoesOnTo rounds n r0 r1 old mid.core slots slots' → OnExhausted result ((new ≡ mid) × (r2 ≡ r1) × (slots'' ≡ slots')) →
+    Owned slots' (tags mid.core.sources) → n < rounds → mid.core.sources ≢ [] → RoundsKeepCall rounds n r0 r1 old mid.core slots slots' → OnExhausted result ((new ≡ mid) × (r2 ≡ r1) × (slots'' ≡ slots')) →
     Stuck result rounds r0 r2 old new.core slots slots''
 rounds-stuck (Ok v) rounds n r0 r1 r2 old mid new slots slots' slots'' same owned left some went halts = tt
 rounds-stuck (Err open_err.OutOfMemory) rounds n r0 r1 r2 old mid new slots slots' slots'' same owned left some went halts = tt
 rounds-stuck (Err open_err.Poller) rounds n r0 r1 r2 old mid new slots slots' slots'' same owned left some went halts = tt
 rounds-stuck (Err (open_err.Exhausted counter value)) rounds n r0 r1 r2 old mid new slots slots' slots'' same owned left some went (core, told', still) = λ sessions begin before built len w.
-    let A : ReactorState → Type 0 = λ x. (past : Pieces) × Halted sessions rounds begin before r2 x.core slots'' past in
-    let B : Option (List Event) → Type 0 = λ x. (past : Pieces) × Halted sessions rounds begin before x mid.core slots'' past in
-    let C : List Slot → Type 0 = λ x. (past : Pieces) × Halted sessions rounds begin before r1 mid.core x past in
+    let A : ReactorState → Type 0 = λ x. (past : Pieces) × CallHalted sessions rounds begin before r2 x.core slots'' past in
+    let B : Option (List Event) → Type 0 = λ x. (past : Pieces) × CallHalted sessions rounds begin before x mid.core slots'' past in
+    let C : List Slot → Type 0 = λ x. (past : Pieces) × CallHalted sessions rounds begin before r1 mid.core x past in
     subst A (sym core) (subst B (sym told') (subst C (sym still) (halted sessions rounds n begin before r1 mid.core slots' built (same ∙ len) owned left some (went sessions begin before built len w))))

@@ -20,17 +20,17 @@ use Rattle.bus_record.specs.Settled.{numbered, start, visited}
 use Rattle.bus_peers.specs.declared.visiting.Slot.{Slot}
 use Rattle.bus_peers.specs.declared.visiting.Slot.TheVariants as slot
 use Rattle.bus_peers.specs.declared.visiting.Sleeper.{Sleeper}
-use Rattle.bus_peers.specs.Closing.{counting}
+use Rattle.bus_peers.specs.inside.Closing.{counting}
 use Rattle.bus_peers.specs.Counts.{waits_in}
-use Rattle.bus_peers.specs.Due.{is_in}
+use Rattle.bus_peers.specs.inside.Due.{is_in}
 use Rattle.bus_peers.specs.Headline.{after_begun}
-use Rattle.bus_peers.specs.Registry.{Held}
-use Rattle.bus_peers.specs.Shows.{Shows}
-use Rattle.bus_peers.specs.Shown.{Rests, shown}
-use Rattle.bus_peers.specs.Visited.{Stays, FirstVisits}
-use Rattle.bus_peers.specs.Slots.{Stands, AllStand, IsNew, Going, Went, AllBuilt, GoesFrom, Goes, Told}
-use Rattle.bus_peers.proofs.Talks.{waits_in-append}
-use Rattle.bus_peers.proofs.GoesLemmas.{goes-again, goes-first, part-quiet}
+use Rattle.bus_peers.specs.inside.Registry.{Held}
+use Rattle.bus_peers.specs.inside.Shows.{Shows}
+use Rattle.bus_peers.specs.inside.Shown.{IsBetweenCalls, shown}
+use Rattle.bus_peers.specs.inside.Visited.{MakesRegisteredVisit, FirstVisits}
+use Rattle.bus_peers.specs.inside.Slots.{Stands, AllStand, IsNew, CallStands, CallStandsAfter, AllBuilt, VisitsKeepCall, VisitInRecord, Told}
+use Rattle.bus_peers.proofs.PollInRecord.{waits_in-append}
+use Rattle.bus_peers.proofs.VisitsInRecord.{goes-again, goes-first, part-quiet}
 use Rattle.bus_peers.proofs.OtherWires.{others-still}
 use Rattle.bus_peers.proofs.Standing.{Still, WaitsOn, stands-move, stand-at, stand-move, stand-set, stand-more, get-take}
 use Rattle.bus_peers.proofs.SlotLemmas.{test-at}
@@ -48,10 +48,10 @@ wires-counted n (s ∷ sessions) = ap (λ ws. n ∷ ws) (wires-counted (n + 1) s
 shows-nothing : Shows nothing []
 shows-nothing = record { rise = tt; each = λ key h at. absurd (none-some h at); free = λ key at. refl; keyed = λ wire key at. absurd (none-some key at) }
 
-pub going-start : (sessions : List Session) (rounds : ℕ) (r : Option (List Event)) (core : Core) (slots : List Slot) → Rests core → core.sources ≡ [] → slots ≡ [] →
-    Went sessions rounds (counting (length sessions) 0) 0 core r r core slots
+pub going-start : (sessions : List Session) (rounds : ℕ) (r : Option (List Event)) (core : Core) (slots : List Slot) → IsBetweenCalls core → core.sources ≡ [] → slots ≡ [] →
+    CallStandsAfter sessions rounds (counting (length sessions) 0) 0 core r r core slots
 going-start sessions rounds r core slots rests empty none =
-    let W : List Slot → List ℕ → Type 0 = λ x ws. Went sessions rounds ws 0 core r r core x in
+    let W : List Slot → List ℕ → Type 0 = λ x ws. CallStandsAfter sessions rounds ws 0 core r r core x in
     let S : List Held → Type 0 = λ x. Shows nothing x in
     subst (λ x. W x (counting (length sessions) 0)) (sym none) (subst (λ ws. W [] ws) (wires-counted 0 sessions) (
       nothing,
@@ -90,7 +90,7 @@ visit-waits : (w wire : ℕ) (pending : List ℕ) (past : Pieces) (v : List Even
 visit-waits w wire pending past v ne dir (inl up) = inl ((others-still wire w past v (ne_eqb wire w (λ e. ne (sym e)))).waits dir ∙ up)
 visit-waits w wire pending past v ne dir (inr is) = inr (other-pending w wire pending ne is)
 
-visit-stands : (s : Session) (wire : ℕ) (pending : List ℕ) (past : Pieces) (v : List Event) (r0 r1 : Option (List Event)) (old new : Core) (c : Slot) → Goes s wire past r0 r1 old new c v →
+visit-stands : (s : Session) (wire : ℕ) (pending : List ℕ) (past : Pieces) (v : List Event) (r0 r1 : Option (List Event)) (old new : Core) (c : Slot) → VisitInRecord s wire past r0 r1 old new c v →
     (t : Session) (w : ℕ) (d : Slot) → w ≢ wire → Stands t w (wire ∷ pending) past d → Stands t w pending (past ▸ visit wire v) d
 visit-stands s wire pending past v r0 r1 old new c g t w d ne is =
     stands-move t w (wire ∷ pending) pending past (past ▸ visit wire v) d (visit-still w wire past v ne (g.others w ne)) (visit-waits w wire pending past v ne) is
@@ -104,7 +104,7 @@ visit-new w wire past v ne none new = record {
 -- a visit, up to where the slots stand
 visit-more : (sessions : List Session) (rounds n wire : ℕ) (pending : List ℕ) (begin : Core) (before r0 r1 : Option (List Event)) (old new : Core) (slots slots' : List Slot) (past : Pieces) (v : List Event) (s : Session) (c : Slot) →
     slice_get sessions wire ≡ Some s → rounds_in past ≡ n → AllStand 0 pending (take (length slots') sessions) slots' (past ▸ visit wire v) → length slots ≤ length slots' → wire < length slots' →
-    Going sessions rounds (wire ∷ pending) begin before r0 old slots past → Goes s wire past r0 r1 old new c v → Went sessions rounds pending n begin before r1 new slots'
+    CallStands sessions rounds (wire ∷ pending) begin before r0 old slots past → VisitInRecord s wire past r0 r1 old new c v → CallStandsAfter sessions rounds pending n begin before r1 new slots'
 visit-more sessions rounds n wire pending begin before r0 r1 old new slots slots' past v s c at count stands more within g x = (
   past ▸ visit wire v,
   count,
@@ -125,8 +125,8 @@ visit-more sessions rounds n wire pending begin before r0 r1 old new slots slots
 -- ---- a visit of a session that sleeps
 
 again-more : (sessions : List Session) (rounds n wire : ℕ) (pending : List ℕ) (begin : Core) (before r0 r1 : Option (List Event)) (old new : Core) (slots : List Slot) (past : Pieces) (s : Session) (d c : Slot) →
-    slice_get slots wire ≡ Some d → slice_get (take (length slots) sessions) wire ≡ Some s → rounds_in past ≡ n → Going sessions rounds (wire ∷ pending) begin before r0 old slots past →
-    (v : List Event) × Goes s wire past r0 r1 old new c v → Went sessions rounds pending n begin before r1 new (slice_set slots wire c)
+    slice_get slots wire ≡ Some d → slice_get (take (length slots) sessions) wire ≡ Some s → rounds_in past ≡ n → CallStands sessions rounds (wire ∷ pending) begin before r0 old slots past →
+    (v : List Event) × VisitInRecord s wire past r0 r1 old new c v → CallStandsAfter sessions rounds pending n begin before r1 new (slice_set slots wire c)
 again-more sessions rounds n wire pending begin before r0 r1 old new slots past s d c was at count g (v, x) =
     let len : length (slice_set slots wire c) ≡ length slots = length-set slots wire c in
     let within : wire < length slots = slice_get_within slots wire d was in
@@ -137,20 +137,20 @@ again-more sessions rounds n wire pending begin before r0 r1 old new slots past 
     (omega (arith, len)) (omega (arith, len, within)) g x
 
 again-at : (sessions : List Session) (rounds n wire : ℕ) (pending : List ℕ) (begin : Core) (before r0 r1 : Option (List Event)) (old new : Core) (slots : List Slot) (past : Pieces) (sl : Sleeper) (c : Slot) → AllBuilt sessions →
-    slice_get slots wire ≡ Some (slot.Asleep sl) → Stays wire sl.key r0 r1 old new sl.client c → rounds_in past ≡ n → Going sessions rounds (wire ∷ pending) begin before r0 old slots past →
-    (s : Session) × (slice_get (take (length slots) sessions) wire ≡ Some s) × Stands s wire (wire ∷ pending) past (slot.Asleep sl) → Went sessions rounds pending n begin before r1 new (slice_set slots wire c)
+    slice_get slots wire ≡ Some (slot.Asleep sl) → MakesRegisteredVisit wire sl.key r0 r1 old new sl.client c → rounds_in past ≡ n → CallStands sessions rounds (wire ∷ pending) begin before r0 old slots past →
+    (s : Session) × (slice_get (take (length slots) sessions) wire ≡ Some s) × Stands s wire (wire ∷ pending) past (slot.Asleep sl) → CallStandsAfter sessions rounds pending n begin before r1 new (slice_set slots wire c)
 again-at sessions rounds n wire pending begin before r0 r1 old new slots past sl c built was stays count g (s, at, is) =
     again-more sessions rounds n wire pending begin before r0 r1 old new slots past s (slot.Asleep sl) c was at count g
     (goes-again s wire past r0 r1 old new sl (wire ∷ pending) c (test-at is_built sessions wire s built (get-take (length slots) wire sessions s at)) g.shows is stays)
 
 again-from : (sessions : List Session) (rounds n wire : ℕ) (pending : List ℕ) (begin : Core) (before r0 r1 : Option (List Event)) (old new : Core) (slots : List Slot) (sl : Sleeper) (c : Slot) → AllBuilt sessions →
-    slice_get slots wire ≡ Some (slot.Asleep sl) → Stays wire sl.key r0 r1 old new sl.client c → Went sessions rounds (wire ∷ pending) n begin before r0 old slots → Went sessions rounds pending n begin before r1 new (slice_set slots wire c)
+    slice_get slots wire ≡ Some (slot.Asleep sl) → MakesRegisteredVisit wire sl.key r0 r1 old new sl.client c → CallStandsAfter sessions rounds (wire ∷ pending) n begin before r0 old slots → CallStandsAfter sessions rounds pending n begin before r1 new (slice_set slots wire c)
 again-from sessions rounds n wire pending begin before r0 r1 old new slots sl c built was stays (past, count, g) =
     again-at sessions rounds n wire pending begin before r0 r1 old new slots past sl c built was stays count g
     (stand-at 0 wire wire (wire ∷ pending) (take (length slots) sessions) slots past (slot.Asleep sl) (omega arith) was g.stands)
 
 pub going-again : (wire : ℕ) (pending : List ℕ) (r0 r1 : Option (List Event)) (old new : Core) (slots : List Slot) (sl : Sleeper) (c : Slot) →
-    slice_get slots wire ≡ Some (slot.Asleep sl) → Stays wire sl.key r0 r1 old new sl.client c → GoesFrom (wire ∷ pending) pending r0 r1 old new slots (slice_set slots wire c)
+    slice_get slots wire ≡ Some (slot.Asleep sl) → MakesRegisteredVisit wire sl.key r0 r1 old new sl.client c → VisitsKeepCall (wire ∷ pending) pending r0 r1 old new slots (slice_set slots wire c)
 going-again wire pending r0 r1 old new slots sl c was stays = λ sessions rounds n begin before built w.
     again-from sessions rounds n wire pending begin before r0 r1 old new slots sl c built was stays w
 
@@ -160,8 +160,8 @@ counting-step : (n i : ℕ) → i < n → counting (n - i) i ≡ i ∷ counting 
 counting-step n i lt = let e : n - i ≡ suc (n - (i + 1)) = omega (arith, lt) in ap (λ k. counting k i) e
 
 first-more : (sessions : List Session) (rounds wire : ℕ) (pending : List ℕ) (begin : Core) (before r0 r1 : Option (List Event)) (old new : Core) (slots : List Slot) (past : Pieces) (s : Session) (c : Slot) →
-    wire ≡ length slots → slice_get sessions wire ≡ Some s → rounds_in past ≡ 0 → Going sessions rounds (wire ∷ pending) begin before r0 old slots past →
-    (v : List Event) × Goes s wire past r0 r1 old new c v → Went sessions rounds pending 0 begin before r1 new (slots ++ c ∷ [])
+    wire ≡ length slots → slice_get sessions wire ≡ Some s → rounds_in past ≡ 0 → CallStands sessions rounds (wire ∷ pending) begin before r0 old slots past →
+    (v : List Event) × VisitInRecord s wire past r0 r1 old new c v → CallStandsAfter sessions rounds pending 0 begin before r1 new (slots ++ c ∷ [])
 first-more sessions rounds wire pending begin before r0 r1 old new slots past s c here at count g (v, x) =
     let after : Pieces = past ▸ visit wire v in
     let len : length (slots ++ c ∷ []) ≡ length slots + 1 = length-append slots (c ∷ []) in
@@ -178,21 +178,21 @@ first-more sessions rounds wire pending begin before r0 r1 old new slots past s 
 
 first-at : (sessions : List Session) (rounds wire : ℕ) (pending : List ℕ) (begin : Core) (before r0 r1 : Option (List Event)) (old new : Core) (slots : List Slot) (s : Session) (c : Slot) → is_built s ≡ true →
     wire ≡ length slots → slice_get sessions wire ≡ Some s → FirstVisits s wire r0 r1 old new c →
-    Went sessions rounds (wire ∷ pending) 0 begin before r0 old slots → Went sessions rounds pending 0 begin before r1 new (slots ++ c ∷ [])
+    CallStandsAfter sessions rounds (wire ∷ pending) 0 begin before r0 old slots → CallStandsAfter sessions rounds pending 0 begin before r1 new (slots ++ c ∷ [])
 first-at sessions rounds wire pending begin before r0 r1 old new slots s c built here at visits (past, count, g) =
     first-more sessions rounds wire pending begin before r0 r1 old new slots past s c here at count g
     (goes-first s wire past r0 r1 old new c built g.shows (g.unused wire (omega (arith, here))) g.rests visits)
 
 pub going-first : (sessions : List Session) (rounds wire : ℕ) (begin : Core) (before r0 r1 : Option (List Event)) (old new : Core) (slots : List Slot) (s : Session) (c : Slot) → is_built s ≡ true →
     wire ≡ length slots → slice_get sessions wire ≡ Some s → FirstVisits s wire r0 r1 old new c →
-    Went sessions rounds (counting (length sessions - wire) wire) 0 begin before r0 old slots →
-    Went sessions rounds (counting (length sessions - (wire + 1)) (wire + 1)) 0 begin before r1 new (slots ++ c ∷ [])
+    CallStandsAfter sessions rounds (counting (length sessions - wire) wire) 0 begin before r0 old slots →
+    CallStandsAfter sessions rounds (counting (length sessions - (wire + 1)) (wire + 1)) 0 begin before r1 new (slots ++ c ∷ [])
 going-first sessions rounds wire begin before r0 r1 old new slots s c built here at visits w =
-    let W : List ℕ → Type 0 = λ x. Went sessions rounds x 0 begin before r0 old slots in
+    let W : List ℕ → Type 0 = λ x. CallStandsAfter sessions rounds x 0 begin before r0 old slots in
     first-at sessions rounds wire (counting (length sessions - (wire + 1)) (wire + 1)) begin before r0 r1 old new slots s c built here at visits
     (subst W (counting-step (length sessions) wire (slice_get_within sessions wire s at)) w)
 
 pub went-told : (sessions : List Session) (rounds n : ℕ) (pending : List ℕ) (begin : Core) (before after : Option (List Event)) (core : Core) (slots : List Slot) →
-    Went sessions rounds pending n begin before after core slots → (m : List Event) × Told before after begin core m
+    CallStandsAfter sessions rounds pending n begin before after core slots → (m : List Event) × Told before after begin core m
 went-told sessions rounds n pending begin before after core slots (past, count, g) =
     (pieces.told past, record { gained = g.gained; made = g.made; closed = g.rests.idle; ticker = g.ticker ∙ ap (λ k. begin.ticker + k) (sym g.counted) })

@@ -4,7 +4,7 @@ use Rattle.std.specs.List.{list_any, list_all}
 use Rattle.react_core.specs.Places.{Entry, Direction, Source, round_number}
 use Rattle.react_core.specs.Core.{Core}
 use Rattle.react_core.specs.Readiness.{Outcome, Fires, Stays, Begins}
-use Rattle.bus_peers.specs.Registry.{Side, Idle, Waits, Reported, Held, Distinct}
+use Rattle.bus_peers.specs.inside.Registry.{Side, Idle, Waits, Reported, Held, Distinct}
 
 abbrev pub task_side : Option ℕ → Side
 task_side None = Reported
@@ -47,7 +47,7 @@ AllSane round last [] = Unit {0}
 AllSane round last (s ∷ sources) = SaneSource round last s.1 × AllSane round last sources
 
 -- how the reactor stands between two calls: each wire has one source, and its own task alone waits there
-pub record Rests (core : Core) : Type 0 where
+pub record IsBetweenCalls (core : Core) : Type 0 where
   pub sane : AllSane core.ticker core.ticker core.sources
   pub distinct : Distinct (map shown core.sources)
   pub idle : core.hands ≡ None
