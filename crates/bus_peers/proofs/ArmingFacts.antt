@@ -1,6 +1,5 @@
 -- An arming changes no source, is of no session, and is no wait.
 use Rattle.std.proofs.Common.{◌≡◌, ℕ, Bool, true, false, ◌||◌, if◌then◌else◌, List, [], ◌∷◌, refl}
-use Rattle.react_core.specs.declared.outside.Event.{Event}
 use Rattle.react_core.specs.declared.outside.Event.TheVariants as event
 use Rattle.bus_session.specs.Parts.{part}
 use Rattle.bus_peers.specs.Counts.{waits_in}

@@ -1,9 +1,8 @@
 -- The call under way: a round, the visits of those that it makes due, and all rounds.
-use Rattle.std.proofs.Common.{◌≡◌, ◌≢◌, ◌≤◌, ◌<◌, ◌⊎◌, inl, inr, ℕ, ◌+◌, Bool, true, false, ◌&&◌, ◌||◌, ◌==◌, if◌then◌else◌, List, [], ◌∷◌, ◌++◌, length, take, map, Option, Some, None, Result, Ok, Err, slice_get, refl, sym, ◌∙◌, ap, subst, arith}
+use Rattle.std.proofs.Common.{◌≡◌, ◌≢◌, ◌<◌, ◌⊎◌, inl, inr, ℕ, ◌+◌, Bool, true, false, ◌&&◌, ◌==◌, List, [], ◌∷◌, ◌++◌, length, take, map, Option, Some, None, Result, Ok, Err, slice_get, refl, sym, ◌∙◌, ap, subst, arith}
 use Rattle.std.specs.List.{list_all}
 use Rattle.std.proofs.lemmas.Bool.{both_ways, eq-eqb, or_left, or_right, or_cases, and_parts, and_from}
 use Rattle.react_core.specs.declared.outside.Event.{Event}
-use Rattle.react_core.specs.declared.outside.Event.TheVariants as event
 use Rattle.react_core.specs.declared.outside.Report.{Report}
 use Rattle.react_core.specs.declared.reactor.Dir.{Dir}
 use Rattle.react_core.specs.declared.reactor.Dir.TheVariants.{Read, Write}
@@ -17,21 +16,21 @@ use Rattle.bus_session.specs.Sessions.{is_built}
 use Rattle.bus_record.specs.Pieces as pieces
 use Rattle.bus_record.specs.Pieces.{Pieces, ◌▸◌, round, rounds_in}
 use Rattle.bus_record.specs.Places.{waits, reports, sleeps}
-use Rattle.bus_record.specs.Settled.{IsRound, rearming, sleepers, due, timeout_at, is_woken, turned}
+use Rattle.bus_record.specs.Settled.{rearming, sleepers, due, is_woken, turned}
 use Rattle.bus_peers.specs.declared.open.OpenError.{OpenError}
 use Rattle.bus_peers.specs.declared.open.OpenError.TheVariants as open_err
 use Rattle.bus_peers.specs.declared.visiting.Slot.{Slot}
 use Rattle.bus_peers.specs.declared.visiting.Slot.TheVariants as slot
 use Rattle.bus_peers.specs.Counts.{waits_in}
-use Rattle.bus_peers.specs.inside.Due.{is_in, is_due, due_at, AreDue}
+use Rattle.bus_peers.specs.inside.Due.{is_in, is_due, due_at}
 use Rattle.bus_peers.specs.inside.Rounds.{round_events}
 use Rattle.bus_peers.specs.inside.Registry.{Held, held_at, reported_held, after_report_held, after_reports_held, registry, rearming_of}
 use Rattle.bus_peers.specs.inside.Registry as registry_of
-use Rattle.bus_peers.specs.inside.RoundEvents.{Round, round_told, reading_told}
+use Rattle.bus_peers.specs.inside.RoundEvents.{Round, round_told}
 use Rattle.bus_peers.specs.inside.Shows.{Shows}
-use Rattle.bus_peers.specs.inside.Shown.{IsBetweenCalls, shown, Tags, tags, has_wire}
+use Rattle.bus_peers.specs.inside.Shown.{shown, Tags, tags, has_wire}
 use Rattle.bus_peers.specs.inside.Rounds.{Rounded, HaveWires, OnExhausted}
-use Rattle.bus_peers.specs.inside.Slots.{Owned, AllBuilt, Stands, AllStand, IsNew, CallStands, CallStandsAfter, VisitsKeepCall, RoundKeepsCall, RoundsSettleCall, CallSettled, Told, CallHalted, Stuck}
+use Rattle.bus_peers.specs.inside.Slots.{Owned, AllBuilt, AllStand, CallStands, CallStandsAfter, VisitsKeepCall, RoundKeepsCall, RoundsSettleCall, CallSettled, Told, CallHalted, Stuck}
 use Rattle.bus_peers.proofs.ArmingFacts.{arming-waits}
 use Rattle.bus_peers.proofs.PollInRecord.{waits_in-append}
 use Rattle.bus_peers.proofs.RoundLemmas.{round-held, round-apart}

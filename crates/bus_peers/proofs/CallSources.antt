@@ -1,7 +1,7 @@
 -- What calls, and the arming behind them, do to the sources, the keys and who holds them.
 use Rattle.std.proofs.Common.{◌≡◌, ◌≢◌, ℕ, Bool, true, false, ◌||◌, ◌==◌, if◌then◌else◌, List, [], ◌∷◌, ◌++◌, Option}
 use Rattle.std.proofs.Common.{Some, None}
-use Rattle.std.proofs.Common.{◌⊎◌, inl, inr, refl, sym, ◌∙◌, ap, subst}
+use Rattle.std.proofs.Common.{refl, sym, ◌∙◌, ap, subst}
 use Rattle.std.proofs.lemmas.Bool.{ne_eqb, eq-eqb}
 use Rattle.std.proofs.lemmas.Option.{none-some, same_Some}
 use Rattle.std.specs.Option.{option_map}
@@ -9,7 +9,7 @@ use Rattle.react_core.specs.declared.outside.Event.{Event}
 use Rattle.react_core.specs.declared.outside.Event.TheVariants as event
 use Rattle.react_core.specs.declared.reactor.Dir.{Dir}
 use Rattle.bus_session.specs.Parts.{is_of, part}
-use Rattle.bus_record.specs.Places.{key_by, key_through, holder_by, holder_through, last_reading_by, last_reading}
+use Rattle.bus_record.specs.Places.{key_through, holder_through, last_reading}
 use Rattle.bus_record.specs.Places.{stop_of}
 use Rattle.bus_peers.specs.inside.Registry.{Held, waits, held_at, held_after, registry, stopped_held, arming}
 use Rattle.bus_peers.specs.inside.Calls.{AreCalls}

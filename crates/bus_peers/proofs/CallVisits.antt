@@ -1,12 +1,10 @@
 -- The call under way: its start, a first visit, and a visit of a session that sleeps.
-use Rattle.std.proofs.Common.{◌≡◌, ◌≢◌, ◌≤◌, ◌<◌, ◌^◌, ◌⊎◌, inl, inr, ℕ, ◌+◌, ◌-◌, suc, min, Bool, true, false, ◌==◌, if◌then◌else◌, List, [], ◌∷◌, ◌++◌, length, take, map, Option, Some, None, slice_get, slice_set, refl, sym, ◌∙◌, ap, subst, arith}
+use Rattle.std.proofs.Common.{◌≡◌, ◌≢◌, ◌≤◌, ◌<◌, ◌^◌, inl, inr, ℕ, ◌+◌, ◌-◌, suc, min, true, false, ◌==◌, List, [], ◌∷◌, ◌++◌, length, take, map, Option, Some, slice_get, slice_set, refl, sym, ◌∙◌, ap, subst, arith}
 use Rattle.std.specs.Prelude.{count_by}
-use Rattle.std.specs.List.{list_all}
 use Rattle.std.proofs.lemmas.Bool.{ne_eqb}
 use Rattle.std.proofs.lemmas.Option.{none-some, slice_get_within, get_or_from_slice_get}
 use Rattle.std.proofs.lemmas.List.{take_more, length-set, length-append}
 use Rattle.react_core.specs.declared.outside.Event.{Event}
-use Rattle.react_core.specs.declared.reactor.Dir.{Dir}
 use Rattle.react_core.specs.Core.{Core}
 use Rattle.react_core.specs.Told.{told, told-told, told-nothing}
 use Rattle.bus_session.specs.declared.session.Session.{Session}
@@ -14,14 +12,11 @@ use Rattle.bus_session.specs.Parts.{part}
 use Rattle.bus_session.specs.Sessions.{is_built}
 use Rattle.bus_record.specs.Pieces as pieces
 use Rattle.bus_record.specs.Pieces.{Pieces, nothing, ◌▸◌, visit, rounds_in, armings_in, is_modify}
-use Rattle.bus_record.specs.Places.{key_of, waits}
-use Rattle.bus_record.specs.Visits.{was_visited}
 use Rattle.bus_record.specs.Settled.{numbered, start, visited}
 use Rattle.bus_peers.specs.declared.visiting.Slot.{Slot}
 use Rattle.bus_peers.specs.declared.visiting.Slot.TheVariants as slot
 use Rattle.bus_peers.specs.declared.visiting.Sleeper.{Sleeper}
 use Rattle.bus_peers.specs.inside.Closing.{counting}
-use Rattle.bus_peers.specs.Counts.{waits_in}
 use Rattle.bus_peers.specs.inside.Due.{is_in}
 use Rattle.bus_peers.specs.Headline.{after_begun}
 use Rattle.bus_peers.specs.inside.Registry.{Held}

@@ -1,8 +1,7 @@
 -- What the calls of a visit keep of the outside, and which counts they raise.
-use Rattle.std.proofs.Common.{◌≡◌, ◌≢◌, ◌≤◌, ◌⊎◌, inl, inr, ◌+◌, ◌-◌, ◌^◌, ℕ, List, [], ◌∷◌, ◌++◌, length, Option, Some, None, Result, Ok, Err, min, max, slice_set, Bool, true, false, if◌then◌else◌, zero, suc, refl, sym, ap, ◌∙◌, subst, arith}
-use Rattle.std.specs.Prelude.{IfOk, OnOk, OnErr}
-use Rattle.std.proofs.lemmas.Option.{same_Some}
-use Rattle.react_core.specs.Core.{Core, inserted}
+use Rattle.std.proofs.Common.{◌≡◌, ◌≤◌, inl, inr, ◌+◌, ℕ, List, [], ◌∷◌, ◌++◌, length, Option, Some, None, Result, Ok, Err, slice_set, Bool, true, false, if◌then◌else◌, zero, suc, refl, sym, ap, ◌∙◌, subst, arith}
+use Rattle.std.specs.Prelude.{IfOk, OnErr}
+use Rattle.react_core.specs.Core.{Core}
 use Rattle.react_core.specs.Readiness.{Outcome, Fires, Stays, Begins, after_source_poll, poll_outcome}
 use Rattle.react_core.specs.Sources.{source_of}
 use Rattle.react_core.specs.Places.{Source}

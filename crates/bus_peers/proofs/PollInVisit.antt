@@ -19,7 +19,7 @@ use Rattle.bus_peers.specs.declared.visiting.PollEnd.TheVariants as poll_end
 use Rattle.bus_session.specs.Parts.{part}
 use Rattle.bus_session.specs.Alone.{goes_through, outcome_of}
 use Rattle.bus_peers.specs.Headline.{after_begun}
-use Rattle.bus_peers.specs.inside.Registry.{Held, Side, Idle, Waits, Reported, stopped, waits, side_held, stopped_held, held_at, registry}
+use Rattle.bus_peers.specs.inside.Registry.{Held, Side, Idle, Waits, Reported, stopped, side_held, stopped_held, held_at, registry}
 use Rattle.bus_peers.specs.inside.Asking.{asks, begins, arms_at}
 use Rattle.bus_peers.specs.Counts.{waits_in}
 use Rattle.bus_peers.specs.inside.Shown.{IsBetweenCalls, shown, Tags, tags}

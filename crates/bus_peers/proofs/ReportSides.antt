@@ -1,31 +1,16 @@
 -- How a source stands behind reports.
-use Rattle.std.proofs.Common.{◌≡◌, ◌≢◌, ℕ, Bool, true, false, not, ◌&&◌, ◌||◌, ◌==◌, if◌then◌else◌, List, [], ◌∷◌, ◌++◌}
+use Rattle.std.proofs.Common.{◌≡◌, ℕ, Bool, true, false, not, ◌&&◌, ◌||◌, ◌==◌, if◌then◌else◌, List, [], ◌∷◌}
 use Rattle.std.proofs.Common.{Option, Some, None, refl, sym, ◌∙◌, ap, subst}
-use Rattle.std.proofs.lemmas.Bool.{both_ways, ne_eqb, eq-eqb, eqb-true, and_parts, or_parts, and_from, or_right}
-use Rattle.std.proofs.lemmas.Option.{none-some, same_Some}
 use Rattle.std.specs.Option.{option_map}
-use Rattle.std.specs.List.{list_all}
-use Rattle.react_core.specs.declared.outside.Event.{Event}
-use Rattle.react_core.specs.declared.outside.Event.TheVariants as event
 use Rattle.react_core.specs.declared.outside.Report.{Report}
 use Rattle.react_core.specs.declared.reactor.Dir.{Dir}
-use Rattle.react_core.specs.declared.reactor.Dir.TheVariants.{Read, Write}
-use Rattle.react_core.specs.Round.{reports_of}
-use Rattle.bus_session.specs.Parts.{is_of, part}
-use Rattle.bus_record.specs.Pieces.{Round, round, Pieces, ◌▸◌, reading_told, events_of}
-use Rattle.bus_record.specs.Places.{key_of, key_by, key_through, holder, holder_by, holder_through, names, named}
-use Rattle.bus_record.specs.Places.{named_of, reports, waits}
-use Rattle.bus_record.specs.Places.{reported, keeps_armed, stays_armed, last_reading_by, last_reading}
-use Rattle.bus_record.specs.Visits.{Here, here}
-use Rattle.bus_record.specs.Settled.{arming_of, rearming_of, rearming}
+use Rattle.bus_record.specs.Places.{named}
 use Rattle.bus_peers.specs.inside.Registry.{Side, Idle, Waits, Reported, Held, told_of, held_at, side_held, reported_held}
 use Rattle.bus_peers.specs.inside.Registry.{after_report_held, after_reports_held}
-use Rattle.bus_peers.specs.inside.Registry as registry
-use Rattle.bus_peers.specs.inside.Shows.{IsSide, StandsAt, ShowsSource, KeysRise, Shows}
-use Rattle.bus_peers.proofs.CallSources.{MovesNothing, nothing-moves}
-use Rattle.bus_peers.proofs.HeldLists.{if-else, if-then, reported_one, report-at, report-rise, registry-append}
-use Rattle.bus_peers.proofs.RoundRearms.{flag, reported-side, eqb-flip, one-key, one-wire, mapped-none}
-use Rattle.bus_peers.proofs.Sides.{side-at, side-same, side-waits, stands-by, and_true}
+use Rattle.bus_peers.specs.inside.Shows.{IsSide, KeysRise}
+use Rattle.bus_peers.proofs.HeldLists.{reported_one, report-at, report-rise}
+use Rattle.bus_peers.proofs.RoundRearms.{flag, reported-side, eqb-flip, one-key, one-wire}
+use Rattle.bus_peers.proofs.Sides.{side-same, and_true}
 
 -- a source after reports
 abbrev pub reports_one : List Report → Held → Held

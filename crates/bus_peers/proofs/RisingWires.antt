@@ -1,15 +1,14 @@
 -- Rising lists of wires, and the wires of numbered sessions.
-use Rattle.std.proofs.Common.{◌≡◌, ◌≢◌, ◌<◌, ◌≤◌, ◌+◌, ℕ, zero, suc, Bool, true, false, nat_le, ◌&&◌, ◌||◌, ◌==◌}
+use Rattle.std.proofs.Common.{◌≡◌, ◌≢◌, ◌<◌, ◌≤◌, ◌+◌, ℕ, zero, suc, Bool, true, false, ◌&&◌, ◌||◌, ◌==◌}
 use Rattle.std.proofs.Common.{if◌then◌else◌}
-use Rattle.std.proofs.Common.{List, [], ◌∷◌, Option, Some, None, map, refl, sym, ◌∙◌, ap, subst, arith}
-use Rattle.std.proofs.lemmas.Bool.{both_ways, ne_eqb, eq-eqb, eqb-true, leb-true}
+use Rattle.std.proofs.Common.{List, [], ◌∷◌, Some, None, map, refl, sym, ◌∙◌, ap, subst, arith}
+use Rattle.std.proofs.lemmas.Bool.{both_ways, ne_eqb, eq-eqb, eqb-true}
 use Rattle.std.proofs.lemmas.Option.{none-some, same_Some}
 use Rattle.std.specs.Prelude.{filter, slice_get}
 use Rattle.bus_session.specs.declared.session.Session.{Session}
 use Rattle.bus_record.specs.Settled.{Numbered, numbered}
 use Rattle.bus_peers.specs.inside.Registry.{RisesFrom}
 use Rattle.bus_peers.specs.inside.Due.{is_in}
-use Rattle.bus_peers.proofs.HeldLists.{if-else, if-then}
 
 -- ---- rising lists
 

@@ -1,26 +1,24 @@
 -- The wires that a round makes due, by the sources and by the pieces.
-use Rattle.std.proofs.Common.{◌≡◌, ◌≢◌, ◌<◌, ◌≤◌, ◌+◌, ℕ, zero, suc, Bool, true, false, nat_lt, ◌&&◌, ◌||◌, ◌==◌}
+use Rattle.std.proofs.Common.{◌≡◌, ◌≢◌, ◌≤◌, ◌+◌, ℕ, Bool, true, false, nat_lt, ◌&&◌, ◌||◌, ◌==◌}
 use Rattle.std.proofs.Common.{if◌then◌else◌}
-use Rattle.std.proofs.Common.{List, [], ◌∷◌, Option, Some, None, map, refl, sym, ◌∙◌, ap, subst, arith}
+use Rattle.std.proofs.Common.{List, [], ◌∷◌, Option, Some, None, refl, sym, ◌∙◌, ap, arith}
 use Rattle.std.proofs.lemmas.Bool.{both_ways, ne_eqb, eq-eqb, eqb-true, ltb-true, ltb-false}
 use Rattle.std.proofs.lemmas.Option.{none-some, same_Some}
-use Rattle.std.specs.Prelude.{filter, filter_map, slice_get}
 use Rattle.std.specs.List.{list_any}
 use Rattle.react_core.specs.declared.outside.Report.{Report}
 use Rattle.react_core.specs.declared.reactor.Dir.{Dir}
 use Rattle.react_core.specs.declared.reactor.Dir.TheVariants.{Read, Write}
 use Rattle.react_core.specs.Round.{reports_of}
-use Rattle.bus_session.specs.declared.session.Session.{Session}
 use Rattle.bus_record.specs.Pieces.{Round, Pieces}
-use Rattle.bus_record.specs.Places.{key_of, named, named_of, waits, sleeps}
+use Rattle.bus_record.specs.Places.{key_of, named, named_of, waits}
 use Rattle.bus_record.specs.Visits.{here}
-use Rattle.bus_record.specs.Settled.{Numbered, numbered, sleepers, is_woken, is_late, due, timeout_at, nearest}
+use Rattle.bus_record.specs.Settled.{is_woken}
 use Rattle.bus_peers.specs.inside.Registry.{Held, held_at, side_held, RisesFrom}
 use Rattle.bus_peers.specs.inside.Registry as registry
-use Rattle.bus_peers.specs.inside.Due.{is_due, due_at, is_in, AreDue, NoDeadlines}
-use Rattle.bus_peers.specs.inside.Shows.{ShowsSource, KeysRise, Shows}
+use Rattle.bus_peers.specs.inside.Due.{is_due, due_at}
+use Rattle.bus_peers.specs.inside.Shows.{KeysRise, Shows}
 use Rattle.bus_peers.proofs.HeldLists.{if-else, if-then, rise-none}
-use Rattle.bus_peers.proofs.Sides.{side-at, side-waits, and_true, and_false}
+use Rattle.bus_peers.proofs.Sides.{side-at, side-waits}
 
 -- ---- one source of a list
 

@@ -1,5 +1,5 @@
 -- The re-arming of a round is the same of the sources and of the pieces.
-use Rattle.std.proofs.Common.{◌≡◌, ◌≢◌, ℕ, Bool, true, false, not, ◌&&◌, ◌||◌, ◌==◌, if◌then◌else◌, List, [], ◌∷◌, ◌++◌}
+use Rattle.std.proofs.Common.{◌≡◌, ℕ, Bool, true, false, not, ◌&&◌, ◌||◌, ◌==◌, if◌then◌else◌, List, [], ◌∷◌, ◌++◌}
 use Rattle.std.proofs.Common.{Option, Some, None, refl, sym, ◌∙◌, ap, subst}
 use Rattle.std.proofs.lemmas.Bool.{both_ways, ne_eqb, eq-eqb, eqb-true}
 use Rattle.std.proofs.lemmas.Option.{none-some, same_Some}
@@ -18,7 +18,7 @@ use Rattle.bus_peers.specs.inside.Registry.{Side, Idle, Waits, Reported, Held, t
 use Rattle.bus_peers.specs.inside.Registry.{after_report_held, arming}
 use Rattle.bus_peers.specs.inside.Registry as registry
 use Rattle.bus_peers.specs.inside.Shows.{Shows}
-use Rattle.bus_peers.proofs.HeldLists.{if-else, if-then, reported_one, report-at}
+use Rattle.bus_peers.proofs.HeldLists.{if-then, reported_one, report-at}
 use Rattle.bus_peers.proofs.Sides.{side-at, side-waits, and_true}
 
 -- ---- one report

@@ -1,7 +1,7 @@
 -- The sources behind a round are those that the pieces show.
 use Rattle.std.proofs.Common.{◌≡◌, ℕ, Bool, true, false, not, ◌&&◌, ◌||◌, List, Option, Some, None, refl, sym, ◌∙◌, ap}
 use Rattle.std.proofs.Common.{[], subst}
-use Rattle.std.proofs.lemmas.Bool.{and_parts, and_from, not_from_true}
+use Rattle.std.proofs.lemmas.Bool.{and_parts, and_from}
 use Rattle.std.proofs.lemmas.Option.{none-some, same_Some}
 use Rattle.std.specs.Option.{option_map}
 use Rattle.std.specs.List.{list_all}

@@ -1,9 +1,9 @@
 -- Which sessions sleep, by their slots, and what is told when their sources are taken out.
-use Rattle.std.proofs.Common.{◌≡◌, ◌≢◌, ℕ, ◌+◌, zero, suc, Bool, true, false, ◌&&◌, ◌==◌, if◌then◌else◌, List, [], ◌∷◌, ◌++◌, length, map, Option, Some, None, is_some, slice_get, refl, sym, ◌∙◌, ap, subst, arith}
+use Rattle.std.proofs.Common.{◌≡◌, ◌≢◌, ℕ, ◌+◌, zero, suc, Bool, true, false, ◌&&◌, List, [], ◌∷◌, ◌++◌, length, map, Option, Some, None, is_some, slice_get, refl, sym, ◌∙◌, ap}
 use Rattle.std.specs.Prelude.{filter, flat_map}
 use Rattle.std.specs.List.{list_all}
-use Rattle.std.proofs.lemmas.Bool.{both_ways, and_parts}
-use Rattle.std.proofs.lemmas.Option.{none-some, same_Some}
+use Rattle.std.proofs.lemmas.Bool.{and_parts}
+use Rattle.std.proofs.lemmas.Option.{none-some}
 use Rattle.react_core.specs.declared.outside.Event.{Event}
 use Rattle.react_core.specs.declared.outside.Event.TheVariants as event
 use Rattle.react_core.specs.declared.reactor.Dir.{Dir}
@@ -13,15 +13,14 @@ use Rattle.bus_session.specs.declared.ended.Ended.{Ended}
 use Rattle.bus_session.specs.Sessions.{is_built}
 use Rattle.bus_record.specs.Pieces.{Pieces}
 use Rattle.bus_record.specs.Places.{key_of, waits, paused, stays_armed, is_early, deadline_at, sleeps, sleeps_in}
-use Rattle.bus_record.specs.Settled.{Numbered, numbered, sleepers, removal}
-use Rattle.bus_record.specs.Settled as record_of
+use Rattle.bus_record.specs.Settled.{Numbered, numbered, removal}
 use Rattle.bus_peers.specs.declared.visiting.Slot.{Slot}
 use Rattle.bus_peers.specs.declared.visiting.Slot.TheVariants as slot
-use Rattle.bus_peers.specs.inside.Closing.{removals_of, closing}
+use Rattle.bus_peers.specs.inside.Closing.{closing}
 use Rattle.bus_peers.specs.inside.Registry.{Held}
 use Rattle.bus_peers.specs.inside.Shows.{Shows}
-use Rattle.bus_peers.specs.inside.Shown.{shown, Tags, tags, Single}
-use Rattle.bus_peers.specs.inside.Slots.{Stands, AllStand, AllBuilt, Owns, AllOwn}
+use Rattle.bus_peers.specs.inside.Shown.{shown, tags, Single}
+use Rattle.bus_peers.specs.inside.Slots.{Stands, AllStand, AllBuilt, AllOwn}
 use Rattle.bus_peers.proofs.ClosingLemmas.{removals-none, removals-one}
 use Rattle.bus_peers.proofs.Standing.{sleeps-now}
 

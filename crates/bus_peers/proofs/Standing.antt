@@ -1,28 +1,26 @@
 -- Where the sessions stand: one that is not visited stands where it stood, and all of them rest.
-use Rattle.std.proofs.Common.{◌≡◌, ◌≢◌, ◌≤◌, ◌<◌, ◌⊎◌, inl, inr, ℕ, ◌+◌, zero, suc, Bool, true, false, not, ◌&&◌, ◌||◌, ◌==◌, if◌then◌else◌, List, [], ◌∷◌, ◌++◌, length, take, Option, Some, None, is_some, slice_get, slice_set, refl, sym, ◌∙◌, ap, subst, arith}
+use Rattle.std.proofs.Common.{◌≡◌, ◌≢◌, ◌≤◌, ◌<◌, ◌⊎◌, inl, inr, ℕ, ◌+◌, zero, suc, Bool, true, false, not, ◌||◌, ◌==◌, if◌then◌else◌, List, [], ◌∷◌, ◌++◌, length, take, Some, None, is_some, slice_get, slice_set, refl, sym, ◌∙◌, ap, subst, arith}
 use Rattle.std.specs.List.{list_all}
-use Rattle.std.specs.Option.{option_and_then}
 use Rattle.std.proofs.lemmas.Bool.{both_ways, or_left, or_right, and_from, and_parts}
 use Rattle.std.proofs.lemmas.Option.{none-some, same_Some}
 use Rattle.react_core.specs.declared.reactor.Dir.{Dir}
 use Rattle.bus_session.specs.declared.session.Session.{Session}
 use Rattle.bus_session.specs.declared.ended.Ended.{Ended}
 use Rattle.bus_session.specs.Parts.{part}
-use Rattle.bus_session.specs.Outcomes.{outcome, is_ended}
+use Rattle.bus_session.specs.Outcomes.{is_ended}
 use Rattle.bus_session.specs.Sessions.{is_built}
-use Rattle.bus_session.specs.Alone.{alone, course, has_reached, outcome_of}
+use Rattle.bus_session.specs.Alone.{alone, course}
 use Rattle.bus_record.specs.Pieces as pieces
 use Rattle.bus_record.specs.Pieces.{Pieces, nothing, ◌▸◌, visit, round}
-use Rattle.bus_record.specs.Places.{key_of, waits, paused, moment, is_early, is_before, stays_armed, last_reading, sleeps, sleeps_in, has_ended}
-use Rattle.bus_record.specs.Settled.{AllRest, Numbered, numbered, comes_to}
-use Rattle.bus_record.specs.Headline.{IsEnding}
+use Rattle.bus_record.specs.Places.{key_of, waits, paused, moment, is_early, stays_armed, sleeps, sleeps_in, has_ended}
+use Rattle.bus_record.specs.Settled.{AllRest, numbered, comes_to}
 use Rattle.bus_peers.specs.declared.visiting.Slot.{Slot}
 use Rattle.bus_peers.specs.declared.visiting.Slot.TheVariants as slot
 use Rattle.bus_peers.specs.inside.Due.{is_in}
 use Rattle.bus_peers.specs.inside.Registry.{Held}
 use Rattle.bus_peers.specs.inside.Shows.{Shows}
-use Rattle.bus_peers.specs.inside.Slots.{Talking, Paused, Stands, AllStand, AllBuilt}
-use Rattle.bus_peers.proofs.VisitsInRecord.{ended-out, awake-ends, built-late}
+use Rattle.bus_peers.specs.inside.Slots.{Paused, Stands, AllStand, AllBuilt}
+use Rattle.bus_peers.proofs.VisitsInRecord.{awake-ends, built-late}
 
 -- ---- a session that is not visited
 

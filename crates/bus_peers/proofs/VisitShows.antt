@@ -1,21 +1,20 @@
 -- The sources behind a visit are those that the pieces show.
-use Rattle.std.proofs.Common.{◌≡◌, ◌≢◌, ℕ, Bool, true, false, ◌==◌, if◌then◌else◌, List, [], ◌∷◌, ◌++◌, Option, Some}
+use Rattle.std.proofs.Common.{◌≡◌, ◌≢◌, ℕ, Bool, true, false, ◌==◌, List, Option, Some}
 use Rattle.std.proofs.Common.{None}
 use Rattle.std.proofs.Common.{refl, sym, ◌∙◌, ap, subst}
 use Rattle.std.proofs.lemmas.Bool.{both_ways, ne_eqb, eq-eqb, eqb-true}
 use Rattle.std.proofs.lemmas.Option.{none-some, same_Some}
 use Rattle.std.specs.Option.{option_map}
 use Rattle.react_core.specs.declared.outside.Event.{Event}
-use Rattle.react_core.specs.declared.outside.Event.TheVariants as event
 use Rattle.react_core.specs.declared.reactor.Dir.{Dir}
 use Rattle.react_core.specs.declared.reactor.Dir.TheVariants.{Read, Write}
 use Rattle.bus_record.specs.Pieces.{visit, Pieces, ◌▸◌}
-use Rattle.bus_record.specs.Places.{key_of, key_through, holder, holder_through, waits, reported, stays_armed}
+use Rattle.bus_record.specs.Places.{key_of, holder, holder_through, waits, stays_armed}
 use Rattle.bus_record.specs.Visits.{Here, here}
 use Rattle.bus_peers.specs.inside.Registry.{Held, held_at}
 use Rattle.bus_peers.specs.inside.Shows.{StandsAt, ShowsSource, KeysRise, Shows, StandsStill}
 use Rattle.bus_peers.proofs.OtherWires.{others-still}
-use Rattle.bus_peers.proofs.Sides.{side-same, stands-by}
+use Rattle.bus_peers.proofs.Sides.{side-same}
 
 -- ---- another's source
 

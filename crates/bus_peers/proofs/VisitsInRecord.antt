@@ -1,8 +1,8 @@
 -- What a visit over the reactor comes to, in the record.
-use Rattle.std.proofs.Common.{◌≡◌, ◌≢◌, ℕ, ◌+◌, ◌<◌, Bool, true, false, not, ◌||◌, ◌==◌, nat_lt, if◌then◌else◌, List, [], ◌∷◌, ◌++◌, map, length, Option, Some, None, is_some, is_none, refl, sym, ◌∙◌, ap, subst, inl, arith}
-use Rattle.std.specs.Prelude.{count_by, fold, sum_by}
-use Rattle.std.specs.Option.{option_map, option_and_then}
-use Rattle.std.proofs.lemmas.List.{append_assoc, append-nil}
+use Rattle.std.proofs.Common.{◌≡◌, ◌≢◌, ℕ, ◌+◌, ◌<◌, Bool, true, false, not, ◌||◌, nat_lt, if◌then◌else◌, List, [], ◌∷◌, ◌++◌, map, length, Option, Some, None, is_some, is_none, refl, sym, ◌∙◌, ap, subst, inl, arith}
+use Rattle.std.specs.Prelude.{count_by, sum_by}
+use Rattle.std.specs.Option.{option_and_then}
+use Rattle.std.proofs.lemmas.List.{append-nil}
 use Rattle.std.proofs.lemmas.List.Sums.{sum_by-append, fold-append}
 use Rattle.std.proofs.lemmas.Bool.{both_ways, ne_eqb, eq-eqb, and_parts, lt-ltb}
 use Rattle.std.proofs.lemmas.Option.{none-some, same_Some}
@@ -13,7 +13,6 @@ use Rattle.react_core.specs.declared.outside.SendAnswer.TheVariants as send_answ
 use Rattle.react_core.specs.declared.outside.DialAnswer.{DialAnswer}
 use Rattle.react_core.specs.declared.outside.DialAnswer.TheVariants as dial_answer
 use Rattle.react_core.specs.declared.outside.Question.{Question}
-use Rattle.react_core.specs.declared.outside.Question.TheVariants as question
 use Rattle.react_core.specs.declared.reactor.Dir.{Dir}
 use Rattle.react_core.specs.declared.reactor.Dir.TheVariants.{Read, Write}
 use Rattle.react_core.specs.Core.{Core, inserted}
@@ -32,29 +31,27 @@ use Rattle.bus_session.specs.Sessions.{is_built, is_built_party}
 use Rattle.bus_session.specs.Dialling.{Dialling, Opened, asks as dial_asks, fails, opens, the_wire, is_same, answered, dialled, conversation}
 use Rattle.bus_session.specs.Parts.{part}
 use Rattle.bus_session.specs.Outcomes.{Outcome, outcome, is_waiting, is_ended}
-use Rattle.bus_session.specs.Alone.{Course, course, first_course, converses, silence, came_to, goes_through, outcome_of, outcome_in, has_reached, alone}
+use Rattle.bus_session.specs.Alone.{Course, course, first_course, converses, silence, came_to, goes_through, outcome_of, outcome_in, has_reached}
 use Rattle.bus_record.specs.Pieces as pieces
 use Rattle.bus_record.specs.Pieces.{Pieces, ◌▸◌, visit, is_modify}
 use Rattle.bus_record.specs.Places.{key_of, key_by, key_through, waits, waits_through, paused, last_stop, moment, last_reading}
 use Rattle.bus_record.specs.Visits.{Here, here, Visit}
 use Rattle.bus_record.specs.Settled.{comes_to}
-use Rattle.bus_record.specs.Headline.{IsEnding}
 use Rattle.bus_peers.specs.declared.visiting.Slot.{Slot}
 use Rattle.bus_peers.specs.declared.visiting.Slot.TheVariants as slot
 use Rattle.bus_peers.specs.declared.visiting.Sleeper.{Sleeper}
-use Rattle.bus_peers.specs.Counts.{waits_in}
 use Rattle.bus_peers.specs.inside.Calls.{AreCalls}
 use Rattle.bus_peers.specs.Headline.{after_begun}
 use Rattle.bus_peers.specs.inside.Registry.{Held, Idle, Waits, Reported, waits as held_waits, side_held, stopped_held, held_at, with_held, idle, registry}
-use Rattle.bus_peers.specs.inside.Asking.{Asking, asks, asking_at, asking_next, begins, arms_at}
-use Rattle.bus_peers.specs.inside.Shows.{IsSide, StandsAt, Shows}
+use Rattle.bus_peers.specs.inside.Asking.{Asking, asks, asking_at, begins, arms_at}
+use Rattle.bus_peers.specs.inside.Shows.{StandsAt, Shows}
 use Rattle.bus_peers.specs.inside.RegisteredVisits.{FirstDial, opened_course, Converses, Concludes, LeavesAsleep}
 use Rattle.bus_peers.specs.inside.Shown.{IsBetweenCalls, shown}
-use Rattle.bus_peers.specs.inside.Slots.{Talking, IsNew, Stands, VisitInRecord}
+use Rattle.bus_peers.specs.inside.Slots.{IsNew, Stands, VisitInRecord}
 use Rattle.bus_peers.specs.inside.Conversations.{unix_wire, AsksFirst}
 use Rattle.bus_peers.specs.inside.Visited as visited
 use Rattle.bus_peers.specs.inside.Visited.{is_awake, arms_told, stands_at, Pauses, MakesRegisteredVisit, RegisteredVisit, FirstVisits}
-use Rattle.bus_peers.proofs.PollInRecord.{part-append, goes-append, waits_in-append, part-own, part-other}
+use Rattle.bus_peers.proofs.PollInRecord.{part-append, goes-append, part-own, part-other}
 use Rattle.bus_peers.proofs.Sides.{side-waits}
 use Rattle.bus_peers.proofs.OtherWiresStay.{with-here}
 use Rattle.bus_peers.proofs.NotReadyNotes.{begun-still}

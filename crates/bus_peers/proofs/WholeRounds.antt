@@ -1,8 +1,8 @@
 -- A round as the sources have it is one of the record in pieces.
-use Rattle.std.proofs.Common.{◌≡◌, ◌≢◌, ◌+◌, ℕ, suc, Bool, true, false, not, ◌==◌, ◌&&◌, ◌||◌, ◌⊎◌, inl, inr}
+use Rattle.std.proofs.Common.{◌≡◌, ◌+◌, ℕ, suc, Bool, true, false, not, ◌==◌, ◌&&◌, ◌||◌, ◌⊎◌, inl, inr}
 use Rattle.std.proofs.Common.{if◌then◌else◌}
-use Rattle.std.proofs.Common.{List, [], ◌∷◌, Option, Some, None, map, refl, sym, ◌∙◌, ap, subst, arith}
-use Rattle.std.proofs.lemmas.Bool.{and_from, or_left, or_right, both_ways}
+use Rattle.std.proofs.Common.{List, [], ◌∷◌, Option, Some, None, map, refl, sym, ◌∙◌, ap, arith}
+use Rattle.std.proofs.lemmas.Bool.{and_from, or_left, or_right}
 use Rattle.std.proofs.lemmas.Option.{none-some, same_Some}
 use Rattle.std.specs.Prelude.{filter, filter_map, is_some, slice_get}
 use Rattle.std.specs.List.{cons_option}
@@ -14,13 +14,12 @@ use Rattle.react_core.specs.Round.{reports_of, is_quiet}
 use Rattle.bus_session.specs.declared.session.Session.{Session}
 use Rattle.bus_session.specs.Alone.{has_reached}
 use Rattle.bus_record.specs.Pieces.{Round, visit, round, Pieces, nothing, ◌▸◌}
-use Rattle.bus_record.specs.Places.{key_of, named, named_of, waits, reports, paused, is_before, is_early, stays_armed}
+use Rattle.bus_record.specs.Places.{key_of, waits, reports, is_before, is_early, stays_armed}
 use Rattle.bus_record.specs.Places.{deadline_at, sleeps, sleeps_in, last_reading}
 use Rattle.bus_record.specs.Visits.{here}
 use Rattle.bus_record.specs.Settled.{Numbered, numbered, sleepers, is_woken, is_late, due, timeout_at, nearest, IsRound}
 use Rattle.bus_record.specs.Settled as settled
-use Rattle.bus_peers.specs.inside.Registry.{Held, held_at, side_held, after_reports_held, rearming}
-use Rattle.bus_peers.specs.inside.Registry as registry
+use Rattle.bus_peers.specs.inside.Registry.{Held, held_at, side_held, after_reports_held}
 use Rattle.bus_peers.specs.inside.Due.{due_at, is_in, AreDue, NoDeadlines}
 use Rattle.bus_peers.specs.inside.Shows.{Shows, ShowsAsleep}
 use Rattle.bus_peers.specs.inside.Laws.{RearmingsAreSame, RoundShows, WokenAreDue, DueWiresAreSame, NothingTimesOut}

@@ -1,5 +1,5 @@
 -- The wires that the reports of a round make due.
-use Rattle.std.specs.Prelude.{◌≡◌, ℕ, Bool, ◌&&◌, ◌||◌, ◌==◌, List, Option, Some, None, slice_get}
+use Rattle.std.specs.Prelude.{◌≡◌, ℕ, Bool, ◌&&◌, ◌||◌, ◌==◌, List, Some, None, slice_get}
 use Rattle.std.specs.List.{list_any}
 use Rattle.react_core.specs.declared.outside.Report.{Report}
 use Rattle.bus_session.specs.declared.session.Session.{Session}

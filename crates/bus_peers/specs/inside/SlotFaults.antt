@@ -3,7 +3,6 @@ use Rattle.std.specs.Prelude.{◌≡◌, ℕ, ◌+◌, List, [], ◌∷◌, Opti
 use Rattle.react_core.specs.Outer.{Outer, NoneFalls}
 use Rattle.react_core.specs.Told.{Rose}
 use Rattle.react_core.specs.declared.outside.Opened.{Opened}
-use Rattle.bus_session.specs.declared.ended.Ended.{Ended}
 use Rattle.bus_peers.specs.declared.visiting.PollEnd.{PollEnd}
 use Rattle.bus_peers.specs.declared.visiting.PollEnd.TheVariants as poll_end
 use Rattle.bus_peers.specs.declared.visiting.Slot.{Slot}

@@ -28,7 +28,7 @@ use Rattle.bus_session.specs.Parts.{part}
 use Rattle.bus_session.specs.Dialling.{conversation}
 use Rattle.bus_session.specs.Alone.{Course, converses, goes_through, outcome_of}
 use Rattle.bus_peers.specs.Headline.{after_begun}
-use Rattle.bus_peers.specs.inside.Registry.{Held, Side, Idle, Waits, Reported, waits, side_held, held_at, with_held, registry, noted, stopped_held}
+use Rattle.bus_peers.specs.inside.Registry.{Held, Side, Idle, Waits, Reported, side_held, held_at, with_held, registry, noted, stopped_held}
 use Rattle.bus_peers.specs.inside.Asking.{asks, begins, arms_at}
 use Rattle.bus_peers.specs.inside.Calls.{AreCalls}
 use Rattle.bus_peers.specs.inside.Conversations.{unix_wire, AsksFirst}

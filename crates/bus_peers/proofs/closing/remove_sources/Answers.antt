@@ -1,4 +1,4 @@
-use Rattle.std.proofs.Common.{[], length, map, refl, ◌∙◌}
+use Rattle.std.proofs.Common.{[], length, map, refl}
 use Rattle.react_core.specs.Outer.{keeps-same, keeps-then}
 use Rattle.react_core.specs.Outer as part
 use Rattle.react_core.specs.Told.{told-nothing}

@@ -1,4 +1,4 @@
-use Rattle.std.proofs.Common.{ap, Ok}
+use Rattle.std.proofs.Common.{ap}
 use Rattle.react_core.specs.Outer.{keeps-then}
 use Rattle.react_core.specs.Outer as part
 use Rattle.bus_peers.proofs.FrameLemmas.{keeps-dialled, slot-after, unconnected-counted}
