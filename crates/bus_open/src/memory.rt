@@ -115,7 +115,8 @@ impl MemSink {
         faults: Vec<u64>,
     ) -> Result<MemSink, OutOfMemory>
         requires { 0 < most }
-        ensures { IfOk result (λ s. s ≡ record { held = []; room = room; most = most; faults = faults.items; calls = 0; failed = 0 }) }
+        ensures { IfOk result
+            (λ s. s ≡ record { held = []; room = room; most = most; faults = faults.items; calls = 0; failed = 0 }) }
     {
         let bytes = Vec::with_capacity(alloc, room)?;
         Ok(MemSink {

@@ -17,7 +17,9 @@ use std::alloc::Global;
 pub(crate) fn refuse<K: Sink>(alloc: Global, sink: &mut K, line: u64, reason: Reason) -> u8
     ensures status { (result ≡ 2) ⊎ (result ≡ 5) }
     ensures tells { Tells (K.held sink.old) (K.held sink.new) }
-    ensures text { result ≡ 2 → GainsOrFails (K.held sink.old) (K.held sink.new) (K.write_faults sink.old) (K.write_faults sink.new) (refusal line reason) }
+    ensures text { result ≡ 2
+        → GainsOrFails (K.held sink.old) (K.held sink.new) (K.write_faults sink.old) (K.write_faults sink.new)
+        (refusal line reason) }
     ensures nothing { result ≡ 5 → Keeps (K.held sink.old) (K.held sink.new) }
 {
     match refusal(alloc, line, reason) {

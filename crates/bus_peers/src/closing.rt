@@ -29,9 +29,14 @@ fn remove_source<R: Registrar>(
 ) -> Result<(), OpenError>
     requires held { IsHeld slot.now reactor.old.core }
     ensures removed { reactor.new ≡ record reactor.old { core = without_slot slot.now reactor.old.core } }
-    ensures told { OnOk result ((R.outer registrar.new).events ≡ told ((R.outer registrar.old).events) (removal_told slot.now reactor.old.core)) }
-    ensures removals { (more : List Event) × ((R.outer registrar.new).events ≡ told ((R.outer registrar.old).events) more) × (list_all is_delete more ≡ true) }
-    ensures cause { VisitCounted result ((R.outer registrar.old).poller_faults) ((R.outer registrar.new).poller_faults) }
+    ensures told { OnOk result
+        ((R.outer registrar.new).events
+        ≡ told ((R.outer registrar.old).events) (removal_told slot.now reactor.old.core)) }
+    ensures removals { (more : List Event)
+        × ((R.outer registrar.new).events ≡ told ((R.outer registrar.old).events) more)
+        × (list_all is_delete more ≡ true) }
+    ensures cause { VisitCounted result ((R.outer registrar.old).poller_faults)
+        ((R.outer registrar.new).poller_faults) }
     ensures keeps { Keeps part.Poller (R.outer registrar.old) (R.outer registrar.new) }
 {
     if let Slot::Asleep(sleeper) = slot {
@@ -49,9 +54,15 @@ pub(crate) fn remove_sources<R: Registrar>(
 ) -> Result<(), OpenError>
     requires owned { Owned slots.now.items (tags reactor.old.core.sources) }
     ensures reactor { reactor.new ≡ record reactor.old { core = record reactor.old.core { sources = [] } } }
-    ensures told { OnOk result ((R.outer registrar.new).events ≡ told ((R.outer registrar.old).events) (closing (length slots.now.items) 0 (map shown reactor.old.core.sources))) }
-    ensures removals { (more : List Event) × ((R.outer registrar.new).events ≡ told ((R.outer registrar.old).events) more) × (list_all is_delete more ≡ true) }
-    ensures cause { VisitCounted result ((R.outer registrar.old).poller_faults) ((R.outer registrar.new).poller_faults) }
+    ensures told { OnOk result
+        ((R.outer registrar.new).events
+        ≡ told ((R.outer registrar.old).events)
+        (closing (length slots.now.items) 0 (map shown reactor.old.core.sources))) }
+    ensures removals { (more : List Event)
+        × ((R.outer registrar.new).events ≡ told ((R.outer registrar.old).events) more)
+        × (list_all is_delete more ≡ true) }
+    ensures cause { VisitCounted result ((R.outer registrar.old).poller_faults)
+        ((R.outer registrar.new).poller_faults) }
     ensures keeps { Keeps part.Poller (R.outer registrar.old) (R.outer registrar.new) }
 {
     let mut answer = Ok(());

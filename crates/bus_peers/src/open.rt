@@ -96,13 +96,17 @@ fn open_first<O: Outside>(
     requires empty { reactor.old.core.sources ≡ [] }
     requires unused { slots.old.items ≡ [] }
     requires room { length sessions.now.items ≤ vec_capacity slots.old }
-    ensures went { OnOk result ((rounds : ℕ) → CallStandsAfter sessions.now.items rounds [] 0 reactor.old.core ((O.outer outside.old).events) ((O.outer outside.new).events) reactor.new.core slots.new.items) }
+    ensures went { OnOk result
+        ((rounds : ℕ)
+        → CallStandsAfter sessions.now.items rounds [] 0 reactor.old.core ((O.outer outside.old).events)
+        ((O.outer outside.new).events) reactor.new.core slots.new.items) }
     ensures rests { OnOk result (IsBetweenCalls reactor.new.core) }
     ensures stands { OnOk result (AllOpen slots.new.items) }
     ensures len { OnOk result (length slots.new.items ≡ length sessions.now.items) }
     ensures few { length slots.new.items < 2 ^ 32 }
     ensures owned { Owned slots.new.items (tags reactor.new.core.sources) }
-    ensures refused { Refuses result ((O.outer outside.old).events) ((O.outer outside.new).events) reactor.old.core reactor.new.core }
+    ensures refused { Refuses result ((O.outer outside.old).events) ((O.outer outside.new).events) reactor.old.core
+        reactor.new.core }
     ensures cause { VisitCounted result ((O.outer outside.old).poller_faults) ((O.outer outside.new).poller_faults) }
     ensures counted { OnOk result (AllCounted 0 slots.new.items (O.outer outside.old) (O.outer outside.new)) }
     ensures timers { reactor.new.core.made ≡ reactor.old.core.made }
@@ -132,12 +136,17 @@ fn open_rounds<O: Outside>(
     requires empty { reactor.old.core.sources ≡ [] }
     requires unused { slots.old.items ≡ [] }
     requires room { length sessions.now.items ≤ vec_capacity slots.old }
-    ensures rested { OnOk result ((past : Pieces) × CallSettled sessions.now.items rounds reactor.old.core ((O.outer outside.old).events) ((O.outer outside.new).events) reactor.new.core slots.new.items past) }
-    ensures halted { Halts result sessions.now.items rounds reactor.old.core ((O.outer outside.old).events) ((O.outer outside.new).events) reactor.new.core slots.new.items }
+    ensures rested { OnOk result
+        ((past : Pieces)
+        × CallSettled sessions.now.items rounds reactor.old.core ((O.outer outside.old).events)
+        ((O.outer outside.new).events) reactor.new.core slots.new.items past) }
+    ensures halted { Halts result sessions.now.items rounds reactor.old.core ((O.outer outside.old).events)
+        ((O.outer outside.new).events) reactor.new.core slots.new.items }
     ensures len { OnOk result (length slots.new.items ≡ length sessions.now.items) }
     ensures few { length slots.new.items < 2 ^ 32 }
     ensures owned { Owned slots.new.items (tags reactor.new.core.sources) }
-    ensures refused { Refuses result ((O.outer outside.old).events) ((O.outer outside.new).events) reactor.old.core reactor.new.core }
+    ensures refused { Refuses result ((O.outer outside.old).events) ((O.outer outside.new).events) reactor.old.core
+        reactor.new.core }
     ensures cause { OpenCounted result ((O.outer outside.old).poller_faults) ((O.outer outside.new).poller_faults) }
     ensures counted { OnOk result (AllCounted 0 slots.new.items (O.outer outside.old) (O.outer outside.new)) }
     ensures timers { reactor.new.core.made ≡ reactor.old.core.made }
@@ -159,7 +168,9 @@ fn open_over<O: Outside>(
     requires idle { IsIdle reactor.old.core }
     requires few { length sessions.now.items < 2 ^ 32 }
     requires built { list_all is_built sessions.now.items ≡ true }
-    ensures opened { (r : List Event) × ((O.outer outside.new).events ≡ told ((O.outer outside.old).events) r) × IfOk result (λ endeds. Opened sessions.now.items rounds reactor.old.core reactor.new.core endeds.items r) × RefusedWith sessions.now.items rounds reactor.old.core reactor.new.core result r }
+    ensures opened { (r : List Event) × ((O.outer outside.new).events ≡ told ((O.outer outside.old).events) r)
+        × IfOk result (λ endeds. Opened sessions.now.items rounds reactor.old.core reactor.new.core endeds.items r)
+        × RefusedWith sessions.now.items rounds reactor.old.core reactor.new.core result r }
     ensures idle { IsIdle reactor.new.core }
     ensures cause { OpenCounted result ((O.outer outside.old).poller_faults) ((O.outer outside.new).poller_faults) }
     ensures faults { IfOk result (λ endeds. EndedsCounted 0 endeds.items (O.outer outside.old) (O.outer outside.new)) }
@@ -199,9 +210,12 @@ pub fn open_all<O: Outside>(
     requires idle { IsIdle reactor.old.core }
     requires few { length sessions.items < 2 ^ 32 }
     requires built { list_all is_built sessions.items ≡ true }
-    ensures opened { (r : List Event) × ((O.outer outside.new).events ≡ told ((O.outer outside.old).events) r) × IfOk result (λ endeds. Opened sessions.items rounds reactor.old.core reactor.new.core endeds.items r) × RefusedWith sessions.items rounds reactor.old.core reactor.new.core result r }
+    ensures opened { (r : List Event) × ((O.outer outside.new).events ≡ told ((O.outer outside.old).events) r)
+        × IfOk result (λ endeds. Opened sessions.items rounds reactor.old.core reactor.new.core endeds.items r)
+        × RefusedWith sessions.items rounds reactor.old.core reactor.new.core result r }
     ensures cause { OpenCounted result ((O.outer outside.old).poller_faults) ((O.outer outside.new).poller_faults) }
-    ensures complete { ¬ Rose ((O.outer outside.old).poller_faults) ((O.outer outside.new).poller_faults) → reactor.old.core.ticker + rounds < 2 ^ 64 → Completes result }
+    ensures complete { ¬ Rose ((O.outer outside.old).poller_faults) ((O.outer outside.new).poller_faults)
+        → reactor.old.core.ticker + rounds < 2 ^ 64 → Completes result }
     ensures idle { IsIdle reactor.new.core }
     ensures faults { IfOk result (λ endeds. EndedsCounted 0 endeds.items (O.outer outside.old) (O.outer outside.new)) }
     ensures timers { reactor.new.core.made ≡ reactor.old.core.made }

@@ -53,7 +53,9 @@ impl Wakes for Nobody {
 
 /// The tasks that were woken, each once and in order.
 fn in_order(woken: Woken) -> Result<Vec<u64>, OpenError>
-    ensures ordered { IfOk result (λ tasks. (woken.lost ≡ false) × RisesFrom 0 tasks.items × ((w : ℕ) → is_in w tasks.items ≡ is_in w woken.tasks.items)) }
+    ensures ordered { IfOk result
+        (λ tasks. (woken.lost ≡ false) × RisesFrom 0 tasks.items
+        × ((w : ℕ) → is_in w tasks.items ≡ is_in w woken.tasks.items)) }
     ensures err { OnErr result (result ≡ Err open_err.OutOfMemory) }
 {
     if woken.lost {
@@ -74,10 +76,15 @@ fn round<O: Clock + Poller>(
     outside: &mut O,
 ) -> Result<Vec<u64>, OpenError>
     requires rests { IsBetweenCalls reactor.old.core }
-    ensures rounded { IfOk result (λ woken. (r : Round) × Rounded ((O.outer outside.old).events) ((O.outer outside.new).events) reactor.old.core reactor.new.core woken.items r) }
-    ensures refused { Refuses result ((O.outer outside.old).events) ((O.outer outside.new).events) reactor.old.core reactor.new.core }
+    ensures rounded { IfOk result
+        (λ woken. (r : Round)
+        × Rounded ((O.outer outside.old).events) ((O.outer outside.new).events) reactor.old.core reactor.new.core
+        woken.items r) }
+    ensures refused { Refuses result ((O.outer outside.old).events) ((O.outer outside.new).events) reactor.old.core
+        reactor.new.core }
     ensures tags { tags reactor.new.core.sources ≡ tags reactor.old.core.sources }
-    ensures exhausted { OnExhausted result (reactor.new ≡ reactor.old × (O.outer outside.new).events ≡ (O.outer outside.old).events) }
+    ensures exhausted { OnExhausted result
+        (reactor.new ≡ reactor.old × (O.outer outside.new).events ≡ (O.outer outside.old).events) }
     ensures cause { OpenCounted result ((O.outer outside.old).poller_faults) ((O.outer outside.new).poller_faults) }
     ensures timers { reactor.new.core.made ≡ reactor.old.core.made }
     ensures keeps { Keeps (part.Round reactor.old.events) (O.outer outside.old) (O.outer outside.new) }
@@ -105,16 +112,24 @@ fn visit_slot<O: Wire + Registrar>(
     requires owned { Owned slots.old.items (tags reactor.old.core.sources) }
     requires stands { AllOpen slots.old.items }
     requires registered { has_wire wire (tags reactor.old.core.sources) ≡ true }
-    ensures went { OnOk result ((pending : List ℕ) → VisitsKeepCall (wire ∷ pending) pending ((O.outer outside.old).events) ((O.outer outside.new).events) reactor.old.core reactor.new.core slots.old.items slots.new.items) }
+    ensures went { OnOk result
+        ((pending : List ℕ)
+        → VisitsKeepCall (wire ∷ pending) pending ((O.outer outside.old).events) ((O.outer outside.new).events)
+        reactor.old.core reactor.new.core slots.old.items slots.new.items) }
     ensures rests { OnOk result (IsBetweenCalls reactor.new.core) }
     ensures stands { OnOk result (AllOpen slots.new.items) }
     ensures owned { Owned slots.new.items (tags reactor.new.core.sources) }
-    ensures others { (w : ℕ) → w ≢ wire → has_wire w (tags reactor.new.core.sources) ≡ has_wire w (tags reactor.old.core.sources) }
+    ensures others { (w : ℕ) → w ≢ wire → has_wire w (tags reactor.new.core.sources)
+        ≡ has_wire w (tags reactor.old.core.sources) }
     ensures len { length slots.new.items ≡ length slots.old.items }
-    ensures told { OnOk result ((more : List Event) × Told ((O.outer outside.old).events) ((O.outer outside.new).events) reactor.old.core reactor.new.core more) }
-    ensures refused { Refuses result ((O.outer outside.old).events) ((O.outer outside.new).events) reactor.old.core reactor.new.core }
+    ensures told { OnOk result
+        ((more : List Event)
+        × Told ((O.outer outside.old).events) ((O.outer outside.new).events) reactor.old.core reactor.new.core more) }
+    ensures refused { Refuses result ((O.outer outside.old).events) ((O.outer outside.new).events) reactor.old.core
+        reactor.new.core }
     ensures cause { VisitCounted result ((O.outer outside.old).poller_faults) ((O.outer outside.new).poller_faults) }
-    ensures counted { OnOk result (CountsOn slots.old.items slots.new.items (O.outer outside.old) (O.outer outside.new)) }
+    ensures counted { OnOk result
+        (CountsOn slots.old.items slots.new.items (O.outer outside.old) (O.outer outside.new)) }
     ensures timers { reactor.new.core.made ≡ reactor.old.core.made }
     ensures keeps { (room : ℕ) → Keeps (part.All room) (O.outer outside.old) (O.outer outside.new) }
     ensures reports { reactor.new.events ≡ reactor.old.events }
@@ -141,15 +156,21 @@ fn visit_woken<O: Wire + Registrar>(
     requires few { length slots.old.items < 2 ^ 32 }
     requires rise { RisesFrom 0 woken.now }
     requires registered { HaveWires woken.now (tags reactor.old.core.sources) }
-    ensures went { OnOk result (VisitsKeepCall woken.now [] ((O.outer outside.old).events) ((O.outer outside.new).events) reactor.old.core reactor.new.core slots.old.items slots.new.items) }
+    ensures went { OnOk result
+        (VisitsKeepCall woken.now [] ((O.outer outside.old).events) ((O.outer outside.new).events) reactor.old.core
+        reactor.new.core slots.old.items slots.new.items) }
     ensures rests { OnOk result (IsBetweenCalls reactor.new.core) }
     ensures stands { OnOk result (AllOpen slots.new.items) }
     ensures owned { Owned slots.new.items (tags reactor.new.core.sources) }
     ensures len { length slots.new.items ≡ length slots.old.items }
-    ensures told { OnOk result ((more : List Event) × Told ((O.outer outside.old).events) ((O.outer outside.new).events) reactor.old.core reactor.new.core more) }
-    ensures refused { Refuses result ((O.outer outside.old).events) ((O.outer outside.new).events) reactor.old.core reactor.new.core }
+    ensures told { OnOk result
+        ((more : List Event)
+        × Told ((O.outer outside.old).events) ((O.outer outside.new).events) reactor.old.core reactor.new.core more) }
+    ensures refused { Refuses result ((O.outer outside.old).events) ((O.outer outside.new).events) reactor.old.core
+        reactor.new.core }
     ensures cause { VisitCounted result ((O.outer outside.old).poller_faults) ((O.outer outside.new).poller_faults) }
-    ensures counted { OnOk result (CountsOn slots.old.items slots.new.items (O.outer outside.old) (O.outer outside.new)) }
+    ensures counted { OnOk result
+        (CountsOn slots.old.items slots.new.items (O.outer outside.old) (O.outer outside.new)) }
     ensures timers { reactor.new.core.made ≡ reactor.old.core.made }
     ensures keeps { (room : ℕ) → Keeps (part.All room) (O.outer outside.old) (O.outer outside.new) }
     ensures reports { reactor.new.events ≡ reactor.old.events }
@@ -171,16 +192,24 @@ fn go_round<O: Outside>(
     requires owned { Owned slots.old.items (tags reactor.old.core.sources) }
     requires stands { AllOpen slots.old.items }
     requires few { length slots.old.items < 2 ^ 32 }
-    ensures went { OnOk result (RoundKeepsCall ((O.outer outside.old).events) ((O.outer outside.new).events) reactor.old.core reactor.new.core slots.old.items slots.new.items) }
+    ensures went { OnOk result
+        (RoundKeepsCall ((O.outer outside.old).events) ((O.outer outside.new).events) reactor.old.core
+        reactor.new.core slots.old.items slots.new.items) }
     ensures rests { OnOk result (IsBetweenCalls reactor.new.core) }
     ensures stands { OnOk result (AllOpen slots.new.items) }
     ensures owned { Owned slots.new.items (tags reactor.new.core.sources) }
     ensures len { length slots.new.items ≡ length slots.old.items }
-    ensures told { OnOk result ((more : List Event) × Told ((O.outer outside.old).events) ((O.outer outside.new).events) reactor.old.core reactor.new.core more) }
-    ensures refused { Refuses result ((O.outer outside.old).events) ((O.outer outside.new).events) reactor.old.core reactor.new.core }
-    ensures exhausted { OnExhausted result (reactor.new ≡ reactor.old × (O.outer outside.new).events ≡ (O.outer outside.old).events × slots.new.items ≡ slots.old.items) }
+    ensures told { OnOk result
+        ((more : List Event)
+        × Told ((O.outer outside.old).events) ((O.outer outside.new).events) reactor.old.core reactor.new.core more) }
+    ensures refused { Refuses result ((O.outer outside.old).events) ((O.outer outside.new).events) reactor.old.core
+        reactor.new.core }
+    ensures exhausted { OnExhausted result
+        (reactor.new ≡ reactor.old × (O.outer outside.new).events ≡ (O.outer outside.old).events × slots.new.items
+        ≡ slots.old.items) }
     ensures cause { OpenCounted result ((O.outer outside.old).poller_faults) ((O.outer outside.new).poller_faults) }
-    ensures counted { OnOk result (CountsOn slots.old.items slots.new.items (O.outer outside.old) (O.outer outside.new)) }
+    ensures counted { OnOk result
+        (CountsOn slots.old.items slots.new.items (O.outer outside.old) (O.outer outside.new)) }
     ensures timers { reactor.new.core.made ≡ reactor.old.core.made }
     ensures keeps { Keeps (part.All reactor.old.events) (O.outer outside.old) (O.outer outside.new) }
     ensures reports { reactor.new.events ≡ reactor.old.events }
@@ -201,14 +230,19 @@ pub(crate) fn go_rounds<O: Outside>(
     requires owned { Owned slots.old.items (tags reactor.old.core.sources) }
     requires stands { AllOpen slots.old.items }
     requires few { length slots.old.items < 2 ^ 32 }
-    ensures went { OnOk result (RoundsSettleCall rounds ((O.outer outside.old).events) ((O.outer outside.new).events) reactor.old.core reactor.new.core slots.old.items slots.new.items) }
+    ensures went { OnOk result
+        (RoundsSettleCall rounds ((O.outer outside.old).events) ((O.outer outside.new).events) reactor.old.core
+        reactor.new.core slots.old.items slots.new.items) }
     ensures rests { OnOk result (IsBetweenCalls reactor.new.core) }
     ensures owned { Owned slots.new.items (tags reactor.new.core.sources) }
     ensures len { length slots.new.items ≡ length slots.old.items }
-    ensures refused { Refuses result ((O.outer outside.old).events) ((O.outer outside.new).events) reactor.old.core reactor.new.core }
-    ensures stuck { Stuck result rounds ((O.outer outside.old).events) ((O.outer outside.new).events) reactor.old.core reactor.new.core slots.old.items slots.new.items }
+    ensures refused { Refuses result ((O.outer outside.old).events) ((O.outer outside.new).events) reactor.old.core
+        reactor.new.core }
+    ensures stuck { Stuck result rounds ((O.outer outside.old).events) ((O.outer outside.new).events)
+        reactor.old.core reactor.new.core slots.old.items slots.new.items }
     ensures cause { OpenCounted result ((O.outer outside.old).poller_faults) ((O.outer outside.new).poller_faults) }
-    ensures counted { OnOk result (CountsOn slots.old.items slots.new.items (O.outer outside.old) (O.outer outside.new)) }
+    ensures counted { OnOk result
+        (CountsOn slots.old.items slots.new.items (O.outer outside.old) (O.outer outside.new)) }
     ensures timers { reactor.new.core.made ≡ reactor.old.core.made }
     ensures keeps { Keeps (part.All reactor.old.events) (O.outer outside.old) (O.outer outside.new) }
     ensures reports { reactor.new.events ≡ reactor.old.events }

@@ -59,7 +59,8 @@ fn dial<D: Dialer>(
 ) -> Result<Option<Opened>, OutOfMemory>
     requires built { is_built session.now ≡ true }
     ensures told { DialTold session.now wire result ((D.outer dialer.old).events) ((D.outer dialer.new).events) }
-    ensures dialled { DialCounted result ((D.outer dialer.old).dial_faults wire) ((D.outer dialer.new).dial_faults wire) }
+    ensures dialled { DialCounted result ((D.outer dialer.old).dial_faults wire)
+        ((D.outer dialer.new).dial_faults wire) }
     ensures keeps { Keeps (part.Dial wire) (D.outer dialer.old) (D.outer dialer.new) }
 {
     match &session.party {
@@ -109,7 +110,10 @@ pub(crate) fn ended_of(
     ending: Ending,
     client: &Conversation,
 ) -> Result<Ended, AllocError>
-    ensures value { IfOk result (λ e. e ≡ record { ending = ending; written = client.now.written; leftover = client.now.rest; wire = wire; moment = None }) }
+    ensures value { IfOk result
+        (λ e. e
+        ≡ record
+        { ending = ending; written = client.now.written; leftover = client.now.rest; wire = wire; moment = None }) }
 {
     Ok(Ended {
         ending,
@@ -122,7 +126,8 @@ pub(crate) fn ended_of(
 
 /// What a session comes to whose dialling failed.
 fn unconnected(alloc: Global, wire: u32) -> Ended
-    ensures value { result ≡ record { ending = ending.Connection; written = []; leftover = []; wire = wire; moment = None } }
+    ensures value { result
+        ≡ record { ending = ending.Connection; written = []; leftover = []; wire = wire; moment = None } }
 {
     Ended {
         ending: Ending::Connection,
@@ -144,9 +149,15 @@ fn note_not_ready<R: Registrar, W: Wakes>(
 ) -> Result<bool, OpenError>
     requires holds { Holds reactor.old.core key wire }
     requires rests { IsBetweenCalls reactor.old.core }
-    ensures readied { IfOk result (λ again. (h : Held) × NotReadyNoted wire key dir ((R.outer registrar.old).events) ((R.outer registrar.new).events) reactor.old.core reactor.new.core again h) }
-    ensures refused { OnErr result (KeepsCall (tags reactor.old.core.sources) ((R.outer registrar.old).events) ((R.outer registrar.new).events) reactor.old.core reactor.new.core) }
-    ensures cause { VisitCounted result ((R.outer registrar.old).poller_faults) ((R.outer registrar.new).poller_faults) }
+    ensures readied { IfOk result
+        (λ again. (h : Held)
+        × NotReadyNoted wire key dir ((R.outer registrar.old).events) ((R.outer registrar.new).events)
+        reactor.old.core reactor.new.core again h) }
+    ensures refused { OnErr result
+        (KeepsCall (tags reactor.old.core.sources) ((R.outer registrar.old).events) ((R.outer registrar.new).events)
+        reactor.old.core reactor.new.core) }
+    ensures cause { VisitCounted result ((R.outer registrar.old).poller_faults)
+        ((R.outer registrar.new).poller_faults) }
     ensures keeps { Keeps part.Poller (R.outer registrar.old) (R.outer registrar.new) }
     ensures reports { reactor.new.events ≡ reactor.old.events }
 {
@@ -180,11 +191,18 @@ fn poll_and_note<O: Wire + Registrar, W: Wakes>(
     requires holds { Holds reactor.old.core key wire }
     requires rests { IsBetweenCalls reactor.old.core }
     requires open { client.old.ended ≡ false }
-    ensures turned { IfOk result (λ poll_end. VisitPolls wire key ((O.outer outside.old).events) ((O.outer outside.new).events) reactor.old.core reactor.new.core client.old client.new poll_end) }
-    ensures onward { IfOk result (OnAgain (may_ask (held_at (map shown reactor.new.core.sources) key)) (may_ask (held_at (map shown reactor.old.core.sources) key))) }
-    ensures refused { OnErr result (KeepsCall (tags reactor.old.core.sources) ((O.outer outside.old).events) ((O.outer outside.new).events) reactor.old.core reactor.new.core) }
+    ensures turned { IfOk result
+        (λ poll_end. VisitPolls wire key ((O.outer outside.old).events) ((O.outer outside.new).events)
+        reactor.old.core reactor.new.core client.old client.new poll_end) }
+    ensures onward { IfOk result
+        (OnAgain (may_ask (held_at (map shown reactor.new.core.sources) key))
+        (may_ask (held_at (map shown reactor.old.core.sources) key))) }
+    ensures refused { OnErr result
+        (KeepsCall (tags reactor.old.core.sources) ((O.outer outside.old).events) ((O.outer outside.new).events)
+        reactor.old.core reactor.new.core) }
     ensures cause { VisitCounted result ((O.outer outside.old).poller_faults) ((O.outer outside.new).poller_faults) }
-    ensures counted { IfOk result (λ poll_end. PollEndCounted wire poll_end (O.outer outside.old) (O.outer outside.new)) }
+    ensures counted { IfOk result
+        (λ poll_end. PollEndCounted wire poll_end (O.outer outside.old) (O.outer outside.new)) }
     ensures keeps { Keeps (part.Visit wire) (O.outer outside.old) (O.outer outside.new) }
     ensures reports { reactor.new.events ≡ reactor.old.events }
 {
@@ -215,10 +233,15 @@ fn resume<O: Wire + Registrar, W: Wakes>(
     requires holds { Holds reactor.old.core key wire }
     requires rests { IsBetweenCalls reactor.old.core }
     requires open { client.old.ended ≡ false }
-    ensures resumed { IfOk result (λ r. VisitPolls wire key ((O.outer outside.old).events) ((O.outer outside.new).events) reactor.old.core reactor.new.core client.old client.new (last_poll_end r)) }
-    ensures refused { OnErr result (KeepsCall (tags reactor.old.core.sources) ((O.outer outside.old).events) ((O.outer outside.new).events) reactor.old.core reactor.new.core) }
+    ensures resumed { IfOk result
+        (λ r. VisitPolls wire key ((O.outer outside.old).events) ((O.outer outside.new).events) reactor.old.core
+        reactor.new.core client.old client.new (last_poll_end r)) }
+    ensures refused { OnErr result
+        (KeepsCall (tags reactor.old.core.sources) ((O.outer outside.old).events) ((O.outer outside.new).events)
+        reactor.old.core reactor.new.core) }
     ensures cause { VisitCounted result ((O.outer outside.old).poller_faults) ((O.outer outside.new).poller_faults) }
-    ensures counted { IfOk result (λ r. PollEndCounted wire (last_poll_end r) (O.outer outside.old) (O.outer outside.new)) }
+    ensures counted { IfOk result
+        (λ r. PollEndCounted wire (last_poll_end r) (O.outer outside.old) (O.outer outside.new)) }
     ensures keeps { Keeps (part.Visit wire) (O.outer outside.old) (O.outer outside.new) }
     ensures reports { reactor.new.events ≡ reactor.old.events }
 {
@@ -243,8 +266,12 @@ pub(crate) fn visit<O: Wire + Registrar, W: Wakes>(
     requires holds { Holds reactor.old.core sleeper.key wire }
     requires rests { IsBetweenCalls reactor.old.core }
     requires open { sleeper.client.ended ≡ false }
-    ensures visited { IfOk result (λ slot. MakesRegisteredVisit wire sleeper.key ((O.outer outside.old).events) ((O.outer outside.new).events) reactor.old.core reactor.new.core sleeper.client slot) }
-    ensures refused { OnErr result (KeepsCall (without_tag (tags reactor.old.core.sources) sleeper.key) ((O.outer outside.old).events) ((O.outer outside.new).events) reactor.old.core reactor.new.core) }
+    ensures visited { IfOk result
+        (λ slot. MakesRegisteredVisit wire sleeper.key ((O.outer outside.old).events) ((O.outer outside.new).events)
+        reactor.old.core reactor.new.core sleeper.client slot) }
+    ensures refused { OnErr result
+        (KeepsCall (without_tag (tags reactor.old.core.sources) sleeper.key) ((O.outer outside.old).events)
+        ((O.outer outside.new).events) reactor.old.core reactor.new.core) }
     ensures cause { VisitCounted result ((O.outer outside.old).poller_faults) ((O.outer outside.new).poller_faults) }
     ensures counted { IfOk result (λ slot. SlotCounted wire slot (O.outer outside.old) (O.outer outside.new)) }
     ensures keeps { Keeps (part.Visit wire) (O.outer outside.old) (O.outer outside.new) }
@@ -277,9 +304,13 @@ fn visit_opened<O: Wire + Registrar, W: Wakes>(
     requires built { is_built session.now ≡ true }
     requires rests { IsBetweenCalls reactor.old.core }
     requires new { has_wire wire (tags reactor.old.core.sources) ≡ false }
-    ensures visited { IfOk result (λ slot. Registers session.now wire passes ((O.outer outside.old).events) ((O.outer outside.new).events) reactor.old.core reactor.new.core slot) }
+    ensures visited { IfOk result
+        (λ slot. Registers session.now wire passes ((O.outer outside.old).events) ((O.outer outside.new).events)
+        reactor.old.core reactor.new.core slot) }
     ensures tags { IfOk result (FirstTags wire (tags reactor.old.core.sources) (tags reactor.new.core.sources)) }
-    ensures refused { OnErr result (KeepsCall (tags reactor.old.core.sources) ((O.outer outside.old).events) ((O.outer outside.new).events) reactor.old.core reactor.new.core) }
+    ensures refused { OnErr result
+        (KeepsCall (tags reactor.old.core.sources) ((O.outer outside.old).events) ((O.outer outside.new).events)
+        reactor.old.core reactor.new.core) }
     ensures cause { VisitCounted result ((O.outer outside.old).poller_faults) ((O.outer outside.new).poller_faults) }
     ensures counted { IfOk result (λ slot. SlotCounted wire slot (O.outer outside.old) (O.outer outside.new)) }
     ensures keeps { Keeps (part.Visit wire) (O.outer outside.old) (O.outer outside.new) }
@@ -309,9 +340,13 @@ pub(crate) fn first_visit<O: Wire + Dialer + Registrar, W: Wakes>(
     requires built { is_built session.now ≡ true }
     requires rests { IsBetweenCalls reactor.old.core }
     requires new { has_wire wire (tags reactor.old.core.sources) ≡ false }
-    ensures visited { IfOk result (λ slot. FirstVisits session.now wire ((O.outer outside.old).events) ((O.outer outside.new).events) reactor.old.core reactor.new.core slot) }
+    ensures visited { IfOk result
+        (λ slot. FirstVisits session.now wire ((O.outer outside.old).events) ((O.outer outside.new).events)
+        reactor.old.core reactor.new.core slot) }
     ensures tags { IfOk result (FirstTags wire (tags reactor.old.core.sources) (tags reactor.new.core.sources)) }
-    ensures refused { OnErr result (KeepsCall (tags reactor.old.core.sources) ((O.outer outside.old).events) ((O.outer outside.new).events) reactor.old.core reactor.new.core) }
+    ensures refused { OnErr result
+        (KeepsCall (tags reactor.old.core.sources) ((O.outer outside.old).events) ((O.outer outside.new).events)
+        reactor.old.core reactor.new.core) }
     ensures cause { VisitCounted result ((O.outer outside.old).poller_faults) ((O.outer outside.new).poller_faults) }
     ensures counted { IfOk result (λ slot. SlotCounted wire slot (O.outer outside.old) (O.outer outside.new)) }
     ensures keeps { Keeps (part.Visit wire) (O.outer outside.old) (O.outer outside.new) }
