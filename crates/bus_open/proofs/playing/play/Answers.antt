@@ -1,4 +1,4 @@
-use Rattle.std.proofs.Common.{◌≡◌, sym, Ok}
+use Rattle.std.proofs.Common.{◌≡◌, Ok}
 use Rattle.bus_script.specs.Script.{Script, script}
 use Rattle.bus_scene.specs.Reading.{IsOf}
 use Rattle.bus_open.proofs.Following.{plays, reads, poller-fails, runs-out}
