@@ -141,7 +141,8 @@ fn with_mechanism(
     named: AuthMechanism,
     response: &Option<Bytes>,
 ) -> Result<Turn<Stage>, AllocError>
-    ensures value { IfOk result (λ t. as_reply t ≡ in_auth (as_terms terms.now) flag (cmd.Auth (Some named) response.now)) }
+    ensures value { IfOk result
+        (λ t. as_reply t ≡ in_auth (as_terms terms.now) flag (cmd.Auth (Some named) response.now)) }
 {
     if !is_mechanism(named, terms.mechanism) {
         return rejects(alloc, terms, flag);
@@ -259,7 +260,8 @@ fn line_of(stage: Stage, line: &[u8]) -> Option<&[u8]>
 
 // The command of a line.
 fn command_at(alloc: Global, stage: Stage, line: &[u8]) -> Result<Option<Command>, AllocError>
-    ensures value { IfOk result (λ c. c ≡ command_in (option_and_then text_of_line (line_of (as_stage stage) line.now))) }
+    ensures value { IfOk result
+        (λ c. c ≡ command_in (option_and_then text_of_line (line_of (as_stage stage) line.now))) }
 {
     match line_of(stage, line) {
         Some(line) => command_in(alloc, line),
@@ -284,7 +286,8 @@ fn said_from(
     stage: Stage,
     lines: &[Bytes],
 ) -> Result<Said, AllocError>
-    ensures value { IfOk result (λ s. as_said s ≡ said_of (turn_from (server_step (as_terms terms.now)) (as_stage stage) lines.now)) }
+    ensures value { IfOk result
+        (λ s. as_said s ≡ said_of (turn_from (server_step (as_terms terms.now)) (as_stage stage) lines.now)) }
 {
     let Some((line, others)) = lines.split_first() else {
         return Ok(Said {
