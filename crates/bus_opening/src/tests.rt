@@ -50,7 +50,17 @@ impl Tells for Memory {
 
     type Origin = ();
 
-    ghost outer = { λ s. record { origin = tt; events = None; moment = 0; poller_faults = 0; wire_faults = λ w. 2 ^ 64 - 1; dial_faults = λ w. 0; doors = record { faults = 0; arrivals = [] }; ample = false } };
+    ghost outer = { λ s. record {
+      origin = tt;
+      events = None;
+      moment = 0;
+      poller_faults = 0;
+      rooms = None;
+      wire_faults = λ w. 2 ^ 64 - 1;
+      dial_faults = λ w. 0;
+      doors = record { faults = 0; arrivals = [] };
+      ample = false;
+    } };
 
     ghost counts_fit = { λ s. record {
       poller = pow_pos 64;
