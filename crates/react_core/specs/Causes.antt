@@ -39,7 +39,8 @@ InsertTold core wire (Err OutOfMemory) before after = after ≡ before
 InsertTold core wire (Err (Exhausted counter value)) before after = ⊥
 
 -- what the removal of this source under the key told: one deregistration
-abbrev pub RemoveTold : {T : Type 0} → Option Source → ℕ → Result T ReactError → Option (List Event) → Option (List Event) → Type 0
+abbrev pub RemoveTold : {T : Type 0} → Option Source → ℕ → Result T ReactError → Option (List Event) →
+    Option (List Event) → Type 0
 RemoveTold None key answer before after = ⊥
 RemoveTold (Some s) key (Ok v) before after = after ≡ told before (event.Delete s.wire key true ∷ [])
 RemoveTold (Some s) key (Err Poller) before after = after ≡ told before (event.Delete s.wire key false ∷ [])

@@ -234,7 +234,8 @@ dials-then (Visit w) a b c p q = (λ v h. q.0 v h ∙ p.0 v h, omega (arith, p.1
 dials-then (All room) a b c p q = λ v. omega (arith, p v, q v)
 
 rises-same : (wire : ℕ) (a b : ℕ → ℕ) → b ≡ a → RisesAt wire a b
-rises-same wire a b same = let P : (ℕ → ℕ) → Type 0 = λ f. RisesAt wire a f in subst P (sym same) (λ v h. refl, omega arith)
+rises-same wire a b same =
+    let P : (ℕ → ℕ) → Type 0 = λ f. RisesAt wire a f in subst P (sym same) (λ v h. refl, omega arith)
 
 none-falls-same : (a b : ℕ → ℕ) → b ≡ a → NoneFalls a b
 none-falls-same a b same = let P : (ℕ → ℕ) → Type 0 = λ f. NoneFalls a f in subst P (sym same) (λ v. omega arith)
@@ -253,7 +254,8 @@ is-itself n = grind (arith, common_steps)
 with-room-again : (room : ℕ) (r : Rooms) → with_room (with_room r room) room ≡ with_room r room
 with-room-again room rooms.Unwaited = rw (is-itself room) refl
 with-room-again room (rooms.Each each) =
-    elim (each == room) as (λ b. (each == room) ≡ b → with_room (with_room (rooms.Each each) room) room ≡ with_room (rooms.Each each) room) [
+    elim (each == room) as (λ b. (each == room) ≡ b →
+    with_room (with_room (rooms.Each each) room) room ≡ with_room (rooms.Each each) room) [
       | true ↦ λ is. rw is (rw is refl)
       | false ↦ λ is. rw is refl
     ] refl

@@ -118,8 +118,9 @@ then_answer (Err e) second = Err e
 
 -- a round of this course, in which the armings after its reports were tried so: a wait that was refused or failed is
 -- finished with no reports
-pub record Ran {W : Type 0} (woke : W → ℕ → W → Type 0) (timeout : Option ℕ) (before after : Option (List Event)) (moment now : ℕ)
-    (old new : ReactorState) (wakes wakes' : W) (answer : Result (Unit {0}) ReactError) (course : Course) (tries : List Try) : Type 0 where
+pub record Ran {W : Type 0} (woke : W → ℕ → W → Type 0) (timeout : Option ℕ) (before after : Option (List Event))
+    (moment now : ℕ) (old new : ReactorState) (wakes wakes' : W) (answer : Result (Unit {0}) ReactError)
+    (course : Course) (tries : List Try) : Type 0 where
   pub form : IsCourse timeout course
   -- a wait gives no more reports than the reactor has room for
   pub within : length (course_reports course) ≤ old.events
@@ -168,7 +169,8 @@ answer_of (Ok v) = Ok tt
 answer_of (Err e) = Err e
 
 -- a pause of this form, after the clock's first reading
-pub record Paused {T : Type 0} (timeout : Option ℕ) (before after : Option (List Event)) (first now : ℕ) (reports : List Report) (answer : Result T ReactError) (p : Pause) : Type 0 where
+pub record Paused {T : Type 0} (timeout : Option ℕ) (before after : Option (List Event)) (first now : ℕ)
+    (reports : List Report) (answer : Result T ReactError) (p : Pause) : Type 0 where
   pub form : IsPause timeout p
   pub gained : after ≡ told before (pause_told timeout p)
   pub clock : PauseClock first p now

@@ -4,14 +4,16 @@
 //! fault is counted, so that whoever is refused can see the cause.
 
 ghost use Rattle.std.specs.Prelude.{◌≡◌, ◌≤◌, ℕ, false, List, Option, length, IfOk, OnErr};
+ghost use Rattle.std.specs.Option.{option_copied};
 ghost use Rattle.react_core.specs.declared.outside.Event.{Event};
 ghost use Rattle.react_core.specs.declared.outside.Question.TheVariants as question;
 ghost use Rattle.react_core.specs.Outer.{Outer, Keeps, CountsFit, with_room, lent};
 ghost use Rattle.react_core.specs.Outer as part;
-ghost use Rattle.react_core.specs.Told.{told, now_told, add_told, modify_told, delete_told, notify_told, wait_told, recv_told, send_told, close_told, dial_told};
+ghost use Rattle.react_core.specs.Told.{told, now_told, add_told, modify_told, delete_told, notify_told, wait_told, recv_told, send_told, close_told};
+ghost use Rattle.react_core.specs.Told.{dial_told, lookup_told, nonce_told, output_told};
 ghost use Rattle.react_core.specs.Told.{Counted, OnLack, IsReceived, IsSent, IsWaited};
 
-use std::alloc::AllocError;
+use std::alloc::{AllocError, Global};
 use std::marker::Model;
 use thiserror::Error;
 
@@ -351,8 +353,8 @@ pub trait Clock: Tells {
         ensures keeps { Keeps part.Clock (Self.outer self.old) (Self.outer self.new) };
 }
 
-/// The part of a poller that knows sources. An interest is one-shot: a report of its key and direction ends it until the
-/// next `modify`.
+/// The part of a poller that knows sources. An interest is one-shot: a report of its key and direction ends it until
+/// the next `modify`.
 pub trait Registrar: Tells {
     /// Registers a wire under a key, with no interest.
     fn add(&mut self, wire: u32, key: usize) -> Result<(), Fault>
@@ -363,7 +365,8 @@ pub trait Registrar: Tells {
 
     /// Sets the directions in which a source is of interest.
     fn modify(&mut self, wire: u32, key: usize, read: bool, write: bool) -> Result<(), Fault>
-        ensures told { (Self.outer self.new).events ≡ told (Self.outer self.old).events (modify_told wire key read write result) }
+        ensures told { (Self.outer self.new).events
+            ≡ told (Self.outer self.old).events (modify_told wire key read write result) }
         ensures cause { Counted result (Self.outer self.old).poller_faults (Self.outer self.new).poller_faults }
         ensures memory { OnLack result ((Self.outer self.old).ample ≡ false) }
         ensures keeps { Keeps part.Poller (Self.outer self.old) (Self.outer self.new) };
@@ -397,7 +400,8 @@ pub enum Waited {
 pub trait Waiter: Tells {
     /// Waits for reports, for at most `timeout` nanoseconds, and puts them at the front of the slice.
     fn wait(&mut self, timeout: Option<u64>, reports: &mut [Report]) -> Result<Waited, Fault>
-        ensures told { (Self.outer self.new).events ≡ told (Self.outer self.old).events (wait_told timeout reports.new result) }
+        ensures told { (Self.outer self.new).events
+            ≡ told (Self.outer self.old).events (wait_told timeout reports.new result) }
         ensures amount { IfOk result (IsWaited (length reports.old)) }
         ensures room { length reports.new ≡ length reports.old }
         ensures lent { (Self.outer self.new).rooms ≡ lent (Self.outer self.old).rooms (length reports.old) }
@@ -430,18 +434,22 @@ pub enum Sent {
 pub trait Wire: Tells {
     /// Reads at most as many bytes as the slice has room for, and at least one where it has room.
     fn recv(&mut self, wire: u32, into: &mut [u8]) -> Result<Received, Fault>
-        ensures told { (Self.outer self.new).events ≡ told (Self.outer self.old).events (recv_told wire into.new result) }
+        ensures told { (Self.outer self.new).events
+            ≡ told (Self.outer self.old).events (recv_told wire into.new result) }
         ensures amount { IfOk result (IsReceived (length into.old)) }
         ensures room { length into.new ≡ length into.old }
-        ensures cause { Counted result ((Self.outer self.old).wire_faults wire) ((Self.outer self.new).wire_faults wire) }
+        ensures cause { Counted result ((Self.outer self.old).wire_faults wire)
+            ((Self.outer self.new).wire_faults wire) }
         ensures memory { OnLack result ((Self.outer self.old).ample ≡ false) }
         ensures keeps { Keeps (part.Wire wire) (Self.outer self.old) (Self.outer self.new) };
 
     /// Offers a piece, of which the wire takes at least one byte where there is one.
     fn send(&mut self, wire: u32, bytes: &[u8]) -> Result<Sent, Fault>
-        ensures told { (Self.outer self.new).events ≡ told (Self.outer self.old).events (send_told wire bytes.now result) }
+        ensures told { (Self.outer self.new).events
+            ≡ told (Self.outer self.old).events (send_told wire bytes.now result) }
         ensures amount { IfOk result (IsSent (length bytes.now)) }
-        ensures cause { Counted result ((Self.outer self.old).wire_faults wire) ((Self.outer self.new).wire_faults wire) }
+        ensures cause { Counted result ((Self.outer self.old).wire_faults wire)
+            ((Self.outer self.new).wire_faults wire) }
         ensures memory { OnLack result ((Self.outer self.old).ample ≡ false) }
         ensures keeps { Keeps (part.Wire wire) (Self.outer self.old) (Self.outer self.new) };
 
@@ -459,19 +467,95 @@ pub struct Opened {
     pub passes: bool,
 }
 
-/// A dialer, which opens connections under the numbers of wires.
+/// What a program printed, and whether it ended in success.
+#[derive(Debug, Drop)]
+pub struct Output {
+    /// Whether the program ended in success.
+    pub success: bool,
+    /// What it printed, whole.
+    pub text: Bytes,
+}
+
+/// A dialer, which opens connections under the numbers of wires. Its questions are those that the transports of
+/// addresses need (D-Bus specification, "Transports").
 pub trait Dialer: Tells {
     /// Connects to the Unix socket at a path.
     fn dial_unix(&mut self, wire: u32, path: &str) -> Result<Opened, Fault>
-        ensures told { (Self.outer self.new).events ≡ told (Self.outer self.old).events (dial_told wire (question.Unix path.now) result) }
-        ensures cause { Counted result ((Self.outer self.old).dial_faults wire) ((Self.outer self.new).dial_faults wire) }
+        ensures told { (Self.outer self.new).events
+            ≡ told (Self.outer self.old).events (dial_told wire (question.Unix path.now) result) }
+        ensures cause { Counted result ((Self.outer self.old).dial_faults wire)
+            ((Self.outer self.new).dial_faults wire) }
+        ensures memory { OnLack result ((Self.outer self.old).ample ≡ false) }
+        ensures keeps { Keeps (part.Dial wire) (Self.outer self.old) (Self.outer self.new) };
+
+    /// Connects to the Unix socket of a name in the abstract namespace. The name is any bytes.
+    fn dial_abstract(&mut self, wire: u32, name: &[u8]) -> Result<Opened, Fault>
+        ensures told { (Self.outer self.new).events
+            ≡ told (Self.outer self.old).events (dial_told wire (question.Abstract name.now) result) }
+        ensures cause { Counted result ((Self.outer self.old).dial_faults wire)
+            ((Self.outer self.new).dial_faults wire) }
+        ensures memory { OnLack result ((Self.outer self.old).ample ≡ false) }
+        ensures keeps { Keeps (part.Dial wire) (Self.outer self.old) (Self.outer self.new) };
+
+    /// Looks up the addresses of a host, with this port, in the order in which they are to be tried.
+    fn lookup(&mut self, alloc: Global, wire: u32, host: &str, port: u16) -> Result<Peers, Fault>
+        ensures told { (Self.outer self.new).events
+            ≡ told (Self.outer self.old).events (lookup_told wire (question.Lookup host.now port) result) }
+        ensures cause { Counted result ((Self.outer self.old).dial_faults wire)
+            ((Self.outer self.new).dial_faults wire) }
+        ensures memory { OnLack result ((Self.outer self.old).ample ≡ false) }
+        ensures keeps { Keeps (part.Dial wire) (Self.outer self.old) (Self.outer self.new) };
+
+    /// Connects to a peer over TCP.
+    fn dial_tcp(&mut self, wire: u32, peer: Peer) -> Result<Opened, Fault>
+        ensures told { (Self.outer self.new).events
+            ≡ told (Self.outer self.old).events (dial_told wire (question.Tcp peer) result) }
+        ensures cause { Counted result ((Self.outer self.old).dial_faults wire)
+            ((Self.outer self.new).dial_faults wire) }
+        ensures memory { OnLack result ((Self.outer self.old).ample ≡ false) }
+        ensures keeps { Keeps (part.Dial wire) (Self.outer self.old) (Self.outer self.new) };
+
+    /// Reads the file of a `nonce-tcp` address to its end.
+    fn read_nonce(&mut self, alloc: Global, wire: u32, path: &str) -> Result<Bytes, Fault>
+        ensures told { (Self.outer self.new).events
+            ≡ told (Self.outer self.old).events (nonce_told wire (question.Nonce path.now) result) }
+        ensures cause { Counted result ((Self.outer self.old).dial_faults wire)
+            ((Self.outer self.new).dial_faults wire) }
+        ensures memory { OnLack result ((Self.outer self.old).ample ≡ false) }
+        ensures keeps { Keeps (part.Dial wire) (Self.outer self.old) (Self.outer self.new) };
+
+    /// Starts a program, whose standard input and output become the connection. `arg0` is the name that it is told as
+    /// its own; where there is none, that is the program's.
+    fn start(
+        &mut self,
+        wire: u32,
+        program: &str,
+        arg0: Option<&str>,
+        args: &Args,
+    ) -> Result<Opened, Fault>
+        ensures told { (Self.outer self.new).events
+            ≡ told (Self.outer self.old).events
+            (dial_told wire (question.Start program.now (option_copied arg0.entry) args.now) result) }
+        ensures cause { Counted result ((Self.outer self.old).dial_faults wire)
+            ((Self.outer self.new).dial_faults wire) }
+        ensures memory { OnLack result ((Self.outer self.old).ample ≡ false) }
+        ensures keeps { Keeps (part.Dial wire) (Self.outer self.old) (Self.outer self.new) };
+
+    /// Has the ibus daemon print its address, and waits for its end.
+    fn run_ibus(&mut self, alloc: Global, wire: u32) -> Result<Output, Fault>
+        ensures told { (Self.outer self.new).events
+            ≡ told (Self.outer self.old).events (output_told wire question.Ibus result) }
+        ensures cause { Counted result ((Self.outer self.old).dial_faults wire)
+            ((Self.outer self.new).dial_faults wire) }
         ensures memory { OnLack result ((Self.outer self.old).ample ≡ false) }
         ensures keeps { Keeps (part.Dial wire) (Self.outer self.old) (Self.outer self.new) };
 
     /// Takes the connection that a peer opened.
     fn accept(&mut self, wire: u32) -> Result<Opened, Fault>
-        ensures told { (Self.outer self.new).events ≡ told (Self.outer self.old).events (dial_told wire question.Accept result) }
-        ensures cause { Counted result ((Self.outer self.old).dial_faults wire) ((Self.outer self.new).dial_faults wire) }
+        ensures told { (Self.outer self.new).events
+            ≡ told (Self.outer self.old).events (dial_told wire question.Accept result) }
+        ensures cause { Counted result ((Self.outer self.old).dial_faults wire)
+            ((Self.outer self.new).dial_faults wire) }
         ensures memory { OnLack result ((Self.outer self.old).ample ≡ false) }
         ensures keeps { Keeps (part.Dial wire) (Self.outer self.old) (Self.outer self.new) };
 }

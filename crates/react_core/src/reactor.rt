@@ -244,8 +244,10 @@ impl Reactor {
         ensures others { IfOk result (λ key. (other : ℕ) → source_of self.new.core.sources other ≡
             (if key == other then Some (new_source wire) else source_of self.old.core.sources other)) }
         ensures err { OnErr result (self.new ≡ self.old) }
-        ensures told { InsertTold self.old.core wire result (R.outer registrar.old).events (R.outer registrar.new).events }
-        ensures cause { ReactCounted result (R.outer registrar.old).poller_faults (R.outer registrar.new).poller_faults }
+        ensures told { InsertTold self.old.core wire result (R.outer registrar.old).events
+            (R.outer registrar.new).events }
+        ensures cause { ReactCounted result (R.outer registrar.old).poller_faults
+            (R.outer registrar.new).poller_faults }
         ensures keeps { Keeps part.Poller (R.outer registrar.old) (R.outer registrar.new) }
     {
         // Whatever can be refused comes first, so that there is nothing to take back.
@@ -272,7 +274,8 @@ impl Reactor {
         ensures memory { OnReactLack result ((R.outer registrar.old).ample ≡ false) }
         ensures told { RemoveTold (source_of self.old.core.sources key) key result
             (R.outer registrar.old).events (R.outer registrar.new).events }
-        ensures cause { ReactCounted result (R.outer registrar.old).poller_faults (R.outer registrar.new).poller_faults }
+        ensures cause { ReactCounted result (R.outer registrar.old).poller_faults
+            (R.outer registrar.new).poller_faults }
         ensures keeps { Keeps part.Poller (R.outer registrar.old) (R.outer registrar.new) }
     {
         // It goes whatever the poller answers.
@@ -311,13 +314,15 @@ impl Reactor {
         ensures steps { CoreSteps self.old.core self.new.core }
         ensures step { IfOk result (λ answer. Step self.old.core (PolledPoll key dir task) (Polled answer)
             (woken_by (poll_outcome self.old.core key dir task)) self.new.core) }
-        ensures woken { OnOk result (WokeAll W.woke wakes.old (woken_by (poll_outcome self.old.core key dir task)) wakes.new) }
+        ensures woken { OnOk result (WokeAll W.woke wakes.old (woken_by (poll_outcome self.old.core key dir task))
+            wakes.new) }
         ensures err { OnErr result (self.new ≡ self.old × wakes.new ≡ wakes.old) }
         ensures memory { OnReactLack result ((R.outer registrar.old).ample ≡ false) }
         ensures refused { OnErr result (IsTrue (arms (poll_outcome self.old.core key dir task))) }
         ensures told { (R.outer registrar.new).events ≡
             told (R.outer registrar.old).events (poll_told self.old.core key dir task result) }
-        ensures cause { ReactCounted result (R.outer registrar.old).poller_faults (R.outer registrar.new).poller_faults }
+        ensures cause { ReactCounted result (R.outer registrar.old).poller_faults
+            (R.outer registrar.new).poller_faults }
         ensures reports { self.new.events ≡ self.old.events }
         ensures keeps { Keeps part.Poller (R.outer registrar.old) (R.outer registrar.new) }
     {
@@ -394,8 +399,8 @@ impl Reactor {
     /// Ends a round: goes through the reports in order, arms what still waits, and wakes the tasks taken, in order.
     ///
     /// A report of a key without a source is passed over. Each direction that another one names is marked with this
-    /// round's number, and its task is taken, write before read; where a task of the source is left, the poller is asked
-    /// to report all directions that still wait.
+    /// round's number, and its task is taken, write before read; where a task of the source is left, the poller is
+    /// asked to report all directions that still wait.
     ///
     /// Poller: the poller refused one of these. The round is done to its end all the same, as it is where one of them
     /// found no memory.
@@ -410,14 +415,17 @@ impl Reactor {
         requires { IsRoundOpen self.old.core }
         ensures core { self.new ≡ record self.old { core = finished_round self.old.core reports.now } }
         ensures steps { CoreSteps self.old.core self.new.core }
-        ensures step { Step self.old.core (Finish reports.now) Done (finish_wakes self.old.core reports.now) self.new.core }
+        ensures step { Step self.old.core (Finish reports.now) Done (finish_wakes self.old.core reports.now)
+            self.new.core }
         ensures woken { WokeAll W.woke wakes.old (finish_wakes self.old.core reports.now) wakes.new }
         ensures told { OnOk result ((R.outer registrar.new).events ≡ told (R.outer registrar.old).events
             (map armed_told (armings_by_all self.old.core.ticker self.old.core.sources reports.now))) }
         ensures memory { OnReactLack result ((R.outer registrar.old).ample ≡ false) }
-        ensures tried { (tries : List Try) × Tried (armings_by_all self.old.core.ticker self.old.core.sources reports.now) result
+        ensures tried { (tries : List Try)
+            × Tried (armings_by_all self.old.core.ticker self.old.core.sources reports.now) result
             (R.outer registrar.old).events (R.outer registrar.new).events tries }
-        ensures cause { ReactCounted result (R.outer registrar.old).poller_faults (R.outer registrar.new).poller_faults }
+        ensures cause { ReactCounted result (R.outer registrar.old).poller_faults
+            (R.outer registrar.new).poller_faults }
         ensures keeps { Keeps part.Poller (R.outer registrar.old) (R.outer registrar.new) }
     {
         let taken = take_reports(

@@ -46,7 +46,8 @@ pub(crate) fn wait_for_reports<O: Clock + Waiter>(
     reports: &mut [Report],
 ) -> Result<usize, ReactError>
     ensures pause { (p : Pause) × Paused timeout (O.outer outside.old).events (O.outer outside.new).events
-        (O.outer outside.old).moment (O.outer outside.new).moment (take (result_unwrap_or result 0) reports.new) result p }
+        (O.outer outside.old).moment (O.outer outside.new).moment (take (result_unwrap_or result 0) reports.new)
+        result p }
     ensures within { result_unwrap_or result 0 ≤ length reports.old }
     ensures memory { OnReactLack result ((O.outer outside.old).ample ≡ false) }
     ensures cause { ReactCounted result (O.outer outside.old).poller_faults (O.outer outside.new).poller_faults }
