@@ -379,8 +379,8 @@ course-append : (s : Session) (wire : ℕ) (xs ys : List Event) →
     course s (part wire (xs ++ ys)) ≡ goes_through (course s (part wire xs)) (part wire ys)
 unfolding course
 course-append s wire xs ys =
-    ap (goes_through (first_course s)) (part-append wire xs ys)
-    ∙ goes-append (first_course s) (part wire xs) (part wire ys)
+    ap (goes_through (Some (first_course s))) (part-append wire xs ys)
+    ∙ goes-append (Some (first_course s)) (part wire xs) (part wire ys)
 
 course-same : (s : Session) (wire : ℕ) (xs ys : List Event) → part wire ys ≡ [] →
     course s (part wire (xs ++ ys)) ≡ course s (part wire xs)

@@ -21,6 +21,9 @@ use Rattle.react_core.specs.declared.outside.Event.{Event}
 use Rattle.react_core.specs.declared.outside.Event.TheVariants as events
 use Rattle.bus_script.specs.Reasons.{reason_word}
 use Rattle.bus_script.specs.declared.line.Reason.{Reason}
+use Rattle.bus_address.specs.Errors.{kind_name}
+use Rattle.bus_session.specs.declared.ended.AddressReason.{AddressReason}
+use Rattle.bus_session.specs.declared.ended.AddressReason.TheVariants as address_reason
 use Rattle.bus_session.specs.declared.ended.Ending.{Ending}
 use Rattle.bus_session.specs.declared.ended.Ending.TheVariants as endings
 use Rattle.bus_session.specs.declared.ended.Ended.{Ended}
@@ -108,8 +111,15 @@ words_text words = join_with_byte 32 words
 abbrev pub line_text : List (List ℕ) → List ℕ
 line_text words = words_text words ++ 10 ∷ []
 
+-- why an address leads nowhere: the kind of what is wrong with its text, or what its dialling found
+abbrev pub address_word : AddressReason → List ℕ
+address_word (address_reason.Text kind) = kind_name kind
+address_word address_reason.IbusFailed = codes "ibus-failed"
+address_word address_reason.NoAddress = codes "no-address"
+
 abbrev pub ending_word : Ending → List ℕ
 ending_word (endings.Open guid passes) = join_with_byte 58 (codes "open" ∷ guid ∷ flag_word passes ∷ [])
+ending_word (endings.Address reason) = join_with_byte 58 (codes "address" ∷ address_word reason ∷ [])
 ending_word endings.Unsupported = codes "unsupported"
 ending_word endings.Connection = codes "connection"
 ending_word endings.Io = codes "io"

@@ -2,11 +2,11 @@
 
 ghost use Rattle.std.specs.Prelude.{◌≡◌, ℕ, List, ◌++◌, ◌∷◌, [], IfOk, OnOk, string_bytes, Some, codes};
 ghost use Rattle.std.specs.List.{flat_map};
-ghost use Rattle.bus_script.specs.Printed.{bytes_word, flag_word, ok_word, directions, peer_word, question_words, dial_words, recv_words, send_words, report_word, wait_words, words_text, event_words, ending_word, ended_words, session_lines, event_lines, printed, refusal};
+ghost use Rattle.bus_script.specs.Printed.{bytes_word, flag_word, ok_word, directions, peer_word, question_words, dial_words, recv_words, send_words, report_word, wait_words, words_text, event_words, address_word, ending_word, ended_words, session_lines, event_lines, printed, refusal};
 
 use crate::line::Reason;
 use bus_opening::Hexadecimal;
-use bus_session::{Ended, Ending};
+use bus_session::{AddressReason, Ended, Ending};
 use react_core::outside::{
     Bytes, DialAnswer, Event, OutOfMemory, Peer, Question, RecvAnswer, Report, SendAnswer,
     WaitAnswer,
@@ -299,6 +299,22 @@ impl fmt::Display for EventLine<'_> {
     }
 }
 
+/// The word for why an address leads nowhere.
+#[derive(Clone, Copy)]
+struct AddressWord(AddressReason);
+
+impl fmt::Display for AddressWord {
+    ghost output = { λ r. Some (address_word r.0) };
+
+    fn fmt<W: fmt::Write>(&self, f: &mut fmt::Formatter<W>) -> fmt::Result {
+        match self.0 {
+            AddressReason::Text(kind) => write!(f, "{kind}"),
+            AddressReason::IbusFailed => f.write_str("ibus-failed"),
+            AddressReason::NoAddress => f.write_str("no-address"),
+        }
+    }
+}
+
 /// The word of an ending.
 #[derive(Clone, Copy)]
 struct EndingWord(Ending);
@@ -311,6 +327,7 @@ impl fmt::Display for EndingWord {
             Ending::Open { guid, cap_unix_fd } => {
                 write!(f, "open:{guid}:{}", flag_word(cap_unix_fd))
             }
+            Ending::Address(reason) => write!(f, "address:{}", AddressWord(reason)),
             Ending::Unsupported => f.write_str("unsupported"),
             Ending::Connection => f.write_str("connection"),
             Ending::Io => f.write_str("io"),

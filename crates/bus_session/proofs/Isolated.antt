@@ -44,7 +44,7 @@ goes-same now wire (e ∷ events) =
 
 course-same : (s : Session) (wire : ℕ) (events : List Event) → course s (map (on_wire wire) events) ≡ course s events
 unfolding course
-course-same s wire events = goes-same (first_course s) wire events
+course-same s wire events = goes-same (Some (first_course s)) wire events
 
 pub isolated : (s : Session) → IsIsolated s
 isolated s wire one two moment e =

@@ -92,8 +92,8 @@ pub record Course : Type 0 where
   pub progress : Progress
 
 -- where a session begins
-abbrev pub first_course : Session → Option Course
-first_course s = option_map (λ d. record { party = s.party; progress = came_to s.party d }) (begins s.party)
+abbrev pub first_course : Session → Course
+first_course s = record { party = s.party; progress = came_to s.party (begins s.party) }
 
 -- the session after one more event of its own
 abbrev pub after : Course → Event → Option Course
@@ -106,7 +106,7 @@ goes_through c (e ∷ events) = goes_through (option_and_then (λ reached. after
 
 -- how far a session has come by these events of its own; none where they are not those that it asks
 unfoldable pub course : Session → List Event → Option Course
-course s events = goes_through (first_course s) events
+course s events = goes_through (Some (first_course s)) events
 
 -- ---- what it comes to
 

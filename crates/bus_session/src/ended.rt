@@ -1,14 +1,27 @@
 //! What came of a session.
 
-use bus_address::Guid;
+use bus_address::{AddressKind, Guid};
 use react_core::outside::Bytes;
+
+/// Why an address leads nowhere.
+#[derive(Clone, Copy, Debug, PartialEq, Eq)]
+pub enum AddressReason {
+    /// The text of the address was refused.
+    Text(AddressKind),
+    /// Ibus could not be run, ended without success, or printed no address.
+    IbusFailed,
+    /// The host has no address of the family that the address names, or none at all.
+    NoAddress,
+}
 
 /// How a session ended.
 #[derive(Clone, Copy, Debug, PartialEq, Eq)]
 pub enum Ending {
     /// The connection stands: the server's GUID, and whether descriptors may be passed over it.
     Open { guid: Guid, cap_unix_fd: bool },
-    /// The address asks for what is not there.
+    /// The address leads nowhere.
+    Address(AddressReason),
+    /// The address asks for what can't be dialled: a folder, a name that is no UTF-8, or ibus by way of ibus.
     Unsupported,
     /// Dialling failed.
     Connection,

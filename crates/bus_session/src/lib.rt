@@ -8,6 +8,6 @@ mod ended;
 mod laws;
 mod session;
 
-pub use ended::{Ended, Ending};
+pub use ended::{AddressReason, Ended, Ending};
 pub use laws::session_is_isolated;
 pub use session::{Party, Session};

@@ -3,7 +3,7 @@
 ghost use Rattle.std.specs.Prelude.{◌≡◌, string_bytes};
 ghost use Rattle.bus_session.specs.declared.session.Party.TheVariants as party;
 
-use bus_address::{Text, plain_path};
+use bus_address::Text;
 use bus_opening::{ClientConfig, ServerConfig};
 
 /// The side of the conversation that a session takes.
@@ -49,15 +49,10 @@ impl Session {
         }
     }
 
-    /// Whether `open_all` takes the session: a client at a plain path or a server, without a deadline.
+    /// Whether `open_all` takes the session: one without a deadline.
     pub fn is_built(&self) -> bool
         ensures value { result ≡ is_built self.now }
     {
-        match &self.party {
-            Party::Client { address, .. } => {
-                self.deadline.is_none() && plain_path(address.as_str()).is_some()
-            }
-            Party::Server(_) => self.deadline.is_none(),
-        }
+        self.deadline.is_none()
     }
 }
