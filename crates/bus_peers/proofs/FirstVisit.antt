@@ -4,8 +4,6 @@ use Rattle.std.specs.Option.{option_map}
 use Rattle.react_core.specs.Places.{Source}
 use Rattle.react_core.specs.declared.outside.Event.{Event}
 use Rattle.react_core.specs.declared.outside.Event.TheVariants as event
-use Rattle.react_core.specs.declared.outside.Question.{Question}
-use Rattle.react_core.specs.declared.outside.Opened.{Opened}
 use Rattle.react_core.specs.declared.reactor.ReactError.{ReactError}
 use Rattle.react_core.specs.declared.reactor.ReactError.TheVariants as react_error
 use Rattle.react_core.specs.Causes.{InsertTold}
@@ -14,18 +12,23 @@ use Rattle.react_core.specs.Sources.{source_of, with_new, new_source}
 use Rattle.react_core.specs.Told.{told, told-nothing}
 use Rattle.bus_opening.specs.Talk.{Said}
 use Rattle.bus_opening.specs.Openings.{Opening, StandsIn}
-use Rattle.bus_session.specs.declared.ended.Ending.TheVariants as ending
+use Rattle.bus_session.specs.declared.ended.Ending.{Ending}
 use Rattle.bus_session.specs.declared.ended.Ended.{Ended}
 use Rattle.bus_session.specs.declared.session.Session.{Session}
 use Rattle.bus_peers.specs.declared.visiting.Slot.{Slot}
 use Rattle.bus_peers.specs.declared.visiting.Slot.TheVariants as slot
 use Rattle.bus_session.specs.Dialling.{conversation}
-use Rattle.bus_peers.specs.inside.Conversations.{unix_wire, AsksFirst}
+use Rattle.bus_session.specs.Dialling as dialling
+use Rattle.bus_peers.specs.declared.dialling.OpenWire.{OpenWire}
+use Rattle.bus_peers.specs.declared.dialling.Dialled.{Dialled}
+use Rattle.bus_peers.specs.declared.dialling.Dialled.TheVariants as dialleds
+use Rattle.bus_peers.specs.declared.dialling.Reached.{Reached}
+use Rattle.bus_peers.specs.inside.Dials.{Answered, dials_of, DialsTo, as_opened, as_dialling}
 use Rattle.bus_peers.specs.inside.Registry.{Idle, held_at, with_held}
-use Rattle.bus_peers.specs.Counts.{waits_in}
 use Rattle.bus_peers.specs.inside.Shown.{AllSane, IsBetweenCalls, shown, Tags, tags, tag_at, without_tag, has_wire, Single}
-use Rattle.bus_peers.specs.inside.Visited.{KeepsCall, Holds, MakesRegisteredVisit, Registers, FirstTags, FirstVisits, undialled, dialled, dial_event}
+use Rattle.bus_peers.specs.inside.Visited.{is_awake, KeepsCall, Holds, MakesRegisteredVisit, Registers, FirstTags, FirstVisits, undialled, dialled}
 use Rattle.bus_peers.proofs.SourcesAreRegistry.{held_at-shown, with_new-shown}
+use Rattle.bus_peers.proofs.DialFolds.{dials-waits}
 use Rattle.bus_peers.proofs.PollInVisit.{keeps-after}
 use Rattle.bus_peers.proofs.TagLemmas.{with_tag, tags-with_new, source-no_tag, tag-held, single-distinct, distinct-single, tag_at-with, other_tag-with, other_wire-with, single-with, without-with}
 
@@ -97,9 +100,9 @@ module _ (old mid : Core) (wire key : ℕ) (free : source_of old.sources key ≡
       )
   inserted-tags r1 r2 new client slot.Refused new_wire (h, h', calls, o, x) = absurd x.stays
 
-  pub inserted-registers : (s : Session) (passes : Bool) (r0 r1 r2 : Option (List Event)) (new : Core) (client : Opening) (c : Slot) → (talk : List (List ℕ) → Said) × (conversation s.party (unix_wire passes) ≡ talk) × StandsIn talk [] client → client.written ≡ [] →
-      r1 ≡ told r0 (event.Add wire key true ∷ []) → MakesRegisteredVisit wire key r1 r2 mid new client c → Registers s wire passes r0 r2 old new c
-  inserted-registers s passes r0 r1 r2 new client c (talk, begun, stands) unwritten added stays =
+  pub inserted-registers : (s : Session) (wired : dialling.Opened) (r0 r1 r2 : Option (List Event)) (new : Core) (client : Opening) (c : Slot) → (talk : List (List ℕ) → Said) × (conversation s.party wired ≡ talk) × StandsIn talk [] client → client.written ≡ [] →
+      r1 ≡ told r0 (event.Add wire key true ∷ []) → MakesRegisteredVisit wire key r1 r2 mid new client c → Registers s wire wired r0 r2 old new c
+  inserted-registers s wired r0 r1 r2 new client c (talk, begun, stands) unwritten added stays =
       let S : Option (List Event) → Type 0 = λ r. MakesRegisteredVisit wire key r r2 mid new client c in (
         talk,
         client,
@@ -130,24 +133,27 @@ insert-keeps wire (react_error.Exhausted counter value) r0 r1 old new rests gain
 
 -- ---- the dialling
 
--- what the dialling told
-abbrev pub Dials : Session → ℕ → Option Opened → Option (List Event) → Option (List Event) → Type 0
-Dials s wire opened r0 r1 = (asked : Question) × AsksFirst s asked × (r1 ≡ told r0 (dial_event wire asked opened ∷ []))
+pub first-undialled : (s : Session) (wire : ℕ) (reached : Reached) (failure : Ending) (r0 r1 : Option (List Event)) (core : Core) (e : Ended) →
+    (dials : List Answered) × DialsTo wire (dialling.begins s.party) (as_dialling reached.dialled) r0 r1 dials → reached.dialled ≡ dialleds.Failed failure →
+    is_awake failure ≡ true → e ≡ record { ending = failure; written = []; leftover = []; wire = wire; moment = None } → FirstVisits s wire r0 r1 core core (slot.Ended e)
+first-undialled s wire reached failure r0 r1 core e (dials, to) is awake says =
+    let T : Dialled → Type 0 = λ d. DialsTo wire (dialling.begins s.party) (as_dialling d) r0 r1 dials in
+    undialled dials failure e (subst T is to) awake refl refl says
 
-pub first-undialled : (s : Session) (wire : ℕ) (opened : Option Opened) (r0 r1 : Option (List Event)) (core : Core) (e : Ended) → Dials s wire opened r0 r1 → opened ≡ None →
-    e ≡ record { ending = ending.Connection; written = []; leftover = []; wire = wire; moment = None } → FirstVisits s wire r0 r1 core core (slot.Ended e)
-first-undialled s wire opened r0 r1 core e (asked, asks, gained) none says = undialled asked e asks (gained ∙ ap (λ o. told r0 (dial_event wire asked o ∷ [])) none) refl refl says
+pub first-dialled : (s : Session) (wire : ℕ) (reached : Reached) (wired : OpenWire) (r0 r1 r2 : Option (List Event)) (old new : Core) (c : Slot) →
+    (dials : List Answered) × DialsTo wire (dialling.begins s.party) (as_dialling reached.dialled) r0 r1 dials → reached.dialled ≡ dialleds.Opened wired →
+    Registers s wire (as_opened wired) r1 r2 old new c → FirstVisits s wire r0 r2 old new c
+first-dialled s wire reached wired r0 r1 r2 old new c (dials, to) is registers =
+    let T : Dialled → Type 0 = λ d. DialsTo wire (dialling.begins s.party) (as_dialling d) r0 r1 dials in
+    dialled dials (as_opened wired) r1 (subst T is to) registers
 
-pub first-dialled : (s : Session) (wire : ℕ) (opened : Option Opened) (o : Opened) (r0 r1 r2 : Option (List Event)) (old new : Core) (c : Slot) → Dials s wire opened r0 r1 → opened ≡ Some o →
-    Registers s wire o.passes r1 r2 old new c → FirstVisits s wire r0 r2 old new c
-first-dialled s wire opened o r0 r1 r2 old new c (asked, asks, gained) some registers =
-    let R : Option (List Event) → Type 0 = λ r. Registers s wire o.passes r r2 old new c in
-    dialled asked o.passes asks (subst R (gained ∙ ap (λ x. told r0 (dial_event wire asked x ∷ [])) some) registers)
+-- the dialling told its Dials, and the call is refused after it
+pub dials-keep : (wire : ℕ) (dials : List Answered) (r0 r1 : Option (List Event)) (core : Core) → IsBetweenCalls core → r1 ≡ told r0 (dials_of wire dials) →
+    KeepsCall (tags core.sources) r0 r1 core core
+dials-keep wire dials r0 r1 core rests gained =
+    (dials_of wire dials, record { gained = gained; waits = dials-waits wire dials; ticker = refl; made = refl; tags = refl; closed = rests.idle })
 
-dial-quiet : (wire : ℕ) (asked : Question) (opened : Option Opened) → waits_in (dial_event wire asked opened ∷ []) ≡ 0
-dial-quiet wire asked None = refl
-dial-quiet wire asked (Some o) = refl
-
-pub dialled-keeps : (s : Session) (wire : ℕ) (opened : Option Opened) (r0 r1 r2 : Option (List Event)) (old new : Core) → Dials s wire opened r0 r1 → KeepsCall (tags old.sources) r1 r2 old new → KeepsCall (tags old.sources) r0 r2 old new
-dialled-keeps s wire opened r0 r1 r2 old new (asked, asks, gained) keeps =
-    keeps-after (tags old.sources) r0 r1 r2 old old new (dial_event wire asked opened ∷ []) gained (dial-quiet wire asked opened) refl refl keeps
+pub dialled-keeps : (wire : ℕ) (dials : List Answered) (r0 r1 r2 : Option (List Event)) (old new : Core) → r1 ≡ told r0 (dials_of wire dials) →
+    KeepsCall (tags old.sources) r1 r2 old new → KeepsCall (tags old.sources) r0 r2 old new
+dialled-keeps wire dials r0 r1 r2 old new gained keeps =
+    keeps-after (tags old.sources) r0 r1 r2 old old new (dials_of wire dials) gained (dials-waits wire dials) refl refl keeps

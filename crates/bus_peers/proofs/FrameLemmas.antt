@@ -8,7 +8,7 @@ use Rattle.react_core.specs.Places.{Source}
 use Rattle.react_core.specs.declared.reactor.Dir.{Dir}
 use Rattle.react_core.specs.Step.{Kind, Answer, Step, PolledPoll, Insert, Remove, Begin, Return, Finish, Polled, Done}
 use Rattle.react_core.specs.Steps.{Steps, CoreSteps}
-use Rattle.react_core.specs.Outer.{Outer, Keeps, NoneFalls, keeps-then, wire-in-visit, dial-in-visit, poller-in-visit, visit-in-all, round-in-all}
+use Rattle.react_core.specs.Outer.{Outer, Keeps, NoneFalls, keeps-then, wire-in-visit, poller-in-visit, visit-in-all, round-in-all}
 use Rattle.react_core.specs.Outer as part
 use Rattle.react_core.specs.Told.{Rose}
 use Rattle.bus_opening.specs.Polling.{IoCounted}
@@ -19,8 +19,6 @@ use Rattle.bus_opening.specs.declared.verdict.Verdict.TheVariants as verdict
 use Rattle.bus_session.specs.declared.ended.Ending.{Ending}
 use Rattle.bus_session.specs.declared.ended.Ending.TheVariants as ending
 use Rattle.bus_session.specs.declared.ended.Ended.{Ended}
-use Rattle.react_core.specs.declared.outside.Opened.{Opened}
-use Rattle.react_core.specs.declared.outside.OutOfMemory.{OutOfMemory}
 use Rattle.bus_peers.specs.declared.visiting.Slot.{Slot}
 use Rattle.bus_peers.specs.declared.visiting.Slot.TheVariants as slot
 use Rattle.bus_peers.specs.declared.visiting.PollEnd.{PollEnd}
@@ -28,12 +26,16 @@ use Rattle.bus_peers.specs.declared.visiting.PollEnd.TheVariants as poll_end
 use Rattle.bus_opening.specs.Openings.{Opening}
 use Rattle.react_core.specs.declared.outside.Event.{Event}
 use Rattle.bus_session.specs.declared.session.Session.{Session}
+use Rattle.bus_peers.specs.declared.dialling.Dialled.{Dialled}
+use Rattle.bus_peers.specs.declared.dialling.Dialled.TheVariants as dialleds
+use Rattle.bus_peers.specs.declared.dialling.Reached.{Reached}
+use Rattle.bus_peers.specs.inside.Dials.{DialCounted}
 use Rattle.bus_peers.specs.inside.Shown.{Tags}
 use Rattle.bus_peers.specs.inside.Visited.{ending_of, KeepsCall, FirstVisits, undialled, dialled}
 use Rattle.bus_peers.specs.inside.Visited as visited
 use Rattle.bus_peers.specs.inside.Rounds.{EndsIn, AllEnd}
 use Rattle.bus_peers.specs.Faults.{EndingCounted, EndedsCounted}
-use Rattle.bus_peers.specs.inside.SlotFaults.{NoneFell, DialCounted, PollEndCounted, SlotCounted, AllCounted, CountsOn}
+use Rattle.bus_peers.specs.inside.SlotFaults.{NoneFell, PollEndCounted, SlotCounted, AllCounted, CountsOn}
 
 -- ---- a count that rose, over a longer stretch
 
@@ -56,11 +58,6 @@ io-rises (step.Done verdict.TooManyCommands) a b counted = same-rises a b counte
 io-rises step.WantRead a b counted = same-rises a b counted
 io-rises step.WantWrite a b counted = same-rises a b counted
 io-rises step.OutOfMemory a b counted = same-rises a b counted
-
-pub dial-rises : {E : Type 0} (result : Result (Option Opened) E) (a b : ℕ) → DialCounted result a b → a ≤ b
-dial-rises (Ok None) a b counted = rose-rises a b counted
-dial-rises (Ok (Some opened)) a b counted = same-rises a b counted
-dial-rises (Err e) a b counted = same-rises a b counted
 
 module _ {Origin : Type 0} where
   -- neither count of this wire fell
@@ -94,6 +91,7 @@ module _ {Origin : Type 0} where
 
   pub ending-within : (wire : ℕ) (e : Ending) (a b c d : Outer Origin) → Rises wire a b → Rises wire c d → EndingCounted wire e b c → EndingCounted wire e a d
   ending-within wire (ending.Open guid cap_unix_fd) a b c d low high counted = tt
+  ending-within wire (ending.Address reason) a b c d low high counted = tt
   ending-within wire ending.Unsupported a b c d low high counted = tt
   ending-within wire ending.Connection a b c d low high counted = rose-within _ _ _ _ low.dials high.dials counted
   ending-within wire ending.Io a b c d low high (inl counted) = inl (rose-within _ _ _ _ low.dials high.dials counted)
@@ -147,9 +145,6 @@ module _ {Origin : Type 0} where
   pub keeps-registered : (wire : ℕ) (a b c : Outer Origin) → Keeps part.Poller a b → Keeps (part.Visit wire) b c → Keeps (part.Visit wire) a c
   keeps-registered wire a b c k l = keeps-then (part.Visit wire) a b c (poller-in-visit wire a b k) l
 
-  pub keeps-dialled : {E : Type 0} (wire : ℕ) (result : Result (Option Opened) E) (a b : Outer Origin) → Keeps (part.Dial wire) a b → DialCounted result (a.dial_faults wire) (b.dial_faults wire) → Keeps (part.Visit wire) a b
-  keeps-dialled wire result a b k counted = dial-in-visit wire a b k (dial-rises result _ _ counted)
-
   -- the ending of a visit, whose source is taken out then
   pub ended-counted : (wire : ℕ) (x : Ending) (e : Ended) (a b c : Outer Origin) → e.ending ≡ x → EndingCounted wire x a b → Keeps part.Poller b c → EndingCounted wire e.ending a c
   ended-counted wire x e a b c is counted k =
@@ -157,12 +152,12 @@ module _ {Origin : Type 0} where
       subst C (sym is) (ending-within wire x a a b c (rises-same wire a) (rises-visit wire b c (poller-in-visit wire b c k)) counted)
 
   -- the dialling opened nothing
-  pub unconnected-counted : (wire : ℕ) (opened : Option Opened) (e : Ended) (a b : Outer Origin) → opened ≡ None → e.ending ≡ ending.Connection →
-      DialCounted {E = OutOfMemory} (Ok opened) (a.dial_faults wire) (b.dial_faults wire) → EndingCounted wire e.ending a b
-  unconnected-counted wire opened e a b none is counted =
+  pub unconnected-counted : (wire : ℕ) (reached : Reached) (failure : Ending) (e : Ended) (a b : Outer Origin) → reached.dialled ≡ dialleds.Failed failure → e.ending ≡ failure →
+      DialCounted wire reached.dialled a b → EndingCounted wire e.ending a b
+  unconnected-counted wire reached failure e a b failed is counted =
       let C : Ending → Type 0 = λ y. EndingCounted wire y a b in
-      let D : Option Opened → Type 0 = λ o. DialCounted {E = OutOfMemory} (Ok o) (a.dial_faults wire) (b.dial_faults wire) in
-      subst C (sym is) (subst D none counted)
+      let D : Dialled → Type 0 = λ d. DialCounted wire d a b in
+      subst C (sym is) (subst D failed counted).1
 
   -- a visit's slot, from before the calls that led to it
   pub slot-after : (wire : ℕ) (s : Slot) (a b c : Outer Origin) → Keeps (part.Visit wire) a b → SlotCounted wire s b c → SlotCounted wire s a c
@@ -254,8 +249,8 @@ visit-made (Ok s) wire key r0 r1 old new c ts (h, h', calls, o, x) refused = x.m
 visit-made (Err e) wire key r0 r1 old new c ts visits (more, k) = k.made
 
 first-visit-made : (s : Session) (wire : ℕ) (r0 r1 : Option (List Event)) (old new : Core) (c : Slot) → FirstVisits s wire r0 r1 old new c → new.made ≡ old.made
-first-visit-made s wire r0 r1 old new c (undialled asked e is gained same slot says) = ap (λ x. x.made) same
-first-visit-made s wire r0 r1 old new c (dialled asked passes is (talk, client, key, mid, registered)) =
+first-visit-made s wire r0 r1 old new c (undialled dials failure e to awake same slot says) = ap (λ x. x.made) same
+first-visit-made s wire r0 r1 old new c (dialled dials wired on to (talk, client, key, mid, registered)) =
     let (h, h', calls, o, x) = registered.stays in x.made ∙ ap (λ y. y.made) registered.core
 
 pub first-made : {E : Type 0} (result : Result Slot E) (s : Session) (wire : ℕ) (r0 r1 : Option (List Event)) (old new : Core) (ts : Tags) →

@@ -18,6 +18,7 @@ pub mod Sides
 pub mod StayPlaces
 pub mod StayVisits
 pub mod OtherWires
+pub mod DialFolds
 pub mod WholeVisits
 pub mod HeldLists
 pub mod CallSources

@@ -15,6 +15,7 @@ use Rattle.react_core.specs.Told.{told, told-told, told-nothing}
 use Rattle.bus_opening.specs.Openings.{Opening}
 use Rattle.bus_peers.specs.declared.open.OpenError.{OpenError}
 use Rattle.bus_peers.specs.declared.open.OpenError.TheVariants as open_err
+use Rattle.bus_session.specs.Dialling.{Opened}
 use Rattle.bus_session.specs.declared.session.Session.{Session}
 use Rattle.bus_peers.specs.inside.Registry.{Held, RisesFrom}
 use Rattle.bus_peers.specs.inside.Shown.{shown, Tags, tags, tag_at, without_tag, has_wire, Single, are_below}
@@ -231,12 +232,12 @@ owned-none slots ts none empty =
 pub open-stays : (wire key : ℕ) (r0 r1 : Option (List Event)) (old new : Core) (b : Opening) (c : Slot) → MakesRegisteredVisit wire key r0 r1 old new b c → is_open_slot c ≡ true
 open-stays wire key r0 r1 old new b c (h, h', calls, o, x) = stays-open wire key b calls o _ h' c x.stays
 
-registers-open : (s : Session) (wire : ℕ) (passes : Bool) (r0 r1 : Option (List Event)) (old new : Core) (c : Slot) → Registers s wire passes r0 r1 old new c → is_open_slot c ≡ true
-registers-open s wire passes r0 r1 old new c (talk, client, key, mid, x) = open-stays wire key _ r1 mid new client c x.stays
+registers-open : (s : Session) (wire : ℕ) (wired : Opened) (r0 r1 : Option (List Event)) (old new : Core) (c : Slot) → Registers s wire wired r0 r1 old new c → is_open_slot c ≡ true
+registers-open s wire wired r0 r1 old new c (talk, client, key, mid, x) = open-stays wire key _ r1 mid new client c x.stays
 
 pub first-open : (s : Session) (wire : ℕ) (r0 r1 : Option (List Event)) (old new : Core) (c : Slot) → FirstVisits s wire r0 r1 old new c → is_open_slot c ≡ true
-first-open s wire r0 r1 old new c (undialled path e asks gained still is says) = ap is_open_slot is
-first-open s wire r0 r1 old new c (dialled path passes asks x) = registers-open s wire passes _ r1 old new c x
+first-open s wire r0 r1 old new c (undialled dials failure e to awake still is says) = ap is_open_slot is
+first-open s wire r0 r1 old new c (dialled dials wired mid to x) = registers-open s wire wired mid r1 old new c x
 
 -- ---- what was told, whatever came of it
 

@@ -7,13 +7,13 @@ use Rattle.std.proofs.lemmas.Option.{none-some, same_Some}
 use Rattle.std.specs.Option.{option_map}
 use Rattle.react_core.specs.declared.outside.Event.{Event}
 use Rattle.react_core.specs.declared.outside.Event.TheVariants as event
-use Rattle.react_core.specs.declared.outside.Question.{Question}
-use Rattle.react_core.specs.declared.outside.DialAnswer.{DialAnswer}
 use Rattle.react_core.specs.declared.reactor.Dir.{Dir}
 use Rattle.bus_record.specs.Pieces.{visit, Pieces, ◌▸◌}
-use Rattle.bus_record.specs.Places.{key_of, key_through, holder, holder_through, waits, waits_through, reported}
-use Rattle.bus_record.specs.Places.{reported_through, stays_armed, armed_through, paused, last_stop}
+use Rattle.bus_record.specs.Places.{key_of, key_by, key_through, holder, holder_by, holder_through, waits, waits_by}
+use Rattle.bus_record.specs.Places.{waits_through, reported, reported_by, reported_through, stays_armed, armed_by}
+use Rattle.bus_record.specs.Places.{armed_through, paused, last_stop_by, last_stop}
 use Rattle.bus_record.specs.Visits.{Here, here, was_visited}
+use Rattle.bus_peers.specs.inside.Dials.{Answered, dials_of, opening}
 use Rattle.bus_peers.specs.inside.Registry.{Held, idle, held_at, registry, with_held, without_held}
 use Rattle.bus_peers.specs.inside.Registry as registry_of
 use Rattle.bus_peers.specs.inside.Calls.{AreCalls}
@@ -22,6 +22,7 @@ use Rattle.bus_peers.specs.inside.Laws.{FailedDialShows, FirstAsleepShows, First
 use Rattle.bus_peers.specs.inside.Laws.{OthersStandStill}
 use Rattle.bus_peers.proofs.CallSources.{held_through, calls-at, calls-rise, through-other, through-own, through-key}
 use Rattle.bus_peers.proofs.CallSources.{through-wire, MovesNothing, arm-moves, calls-keys, calls-holders}
+use Rattle.bus_peers.proofs.DialFolds.{dials-still, opening-fold, opening-sources}
 use Rattle.bus_peers.proofs.HeldLists.{registry-append, if-else, if-then, with-rise, with-at, with-others, without-rise}
 use Rattle.bus_peers.proofs.HeldLists.{without-at, without-others}
 use Rattle.bus_peers.proofs.OtherWires.{others-still, own-behind, Unvisited, unvisited}
@@ -196,11 +197,11 @@ module _ (past : Pieces) (wire key : ℕ) (first : List Event) (h : Here) (from 
 -- ---- the two beginnings
 
 -- a first visit that adds a source under a free key
-begun-first : (past : Pieces) (wire key : ℕ) (question : Question) (answer : DialAnswer) (sources : List Held) →
+begun-first : (past : Pieces) (wire key : ℕ) (dials : List Answered) (sources : List Held) →
     Shows past sources → was_visited wire past ≡ false → held_at sources key ≡ None →
-    Begun past wire key (event.Dial wire question answer ∷ (event.Add wire key true ∷ []))
-    (registered_at wire past key question answer) (idle wire key) sources (with_held sources (idle wire key))
-begun-first past wire key question answer sources shows none free =
+    Begun past wire key (opening wire key dials) (registered_at wire past key) (idle wire key) sources
+    (with_held sources (idle wire key))
+begun-first past wire key dials sources shows none free =
     let un : Unvisited wire past = unvisited wire past none in
     record {
       rise = with-rise 0 sources (idle wire key) (omega arith) free shows.rise;
@@ -208,17 +209,19 @@ begun-first past wire key question answer sources shows none free =
       others = λ k other. with-others sources (idle wire key) k other;
       key_so = refl;
       wire_so = refl;
-      stands = stands-idle wire past key question answer un;
-      keys = λ rest. refl;
-      holds = λ rest. ap (λ h. holder_through key h rest)
+      stands = stands-idle wire past key un;
+      keys = λ rest. opening-fold key_by (λ s w q a. refl) wire key dials rest (key_of wire past);
+      holds = λ rest. opening-fold (holder_by key) (λ s w q a. refl) wire key dials rest (holder key past)
+          ∙ ap (λ h. holder_through key h rest)
           (if-then (key == key) (Some wire) (holder key past) (eq-eqb key key refl));
-      holders = λ k rest other. ap (λ h. holder_through k h rest)
+      holders = λ k rest other. opening-fold (holder_by k) (λ s w q a. refl) wire key dials rest (holder k past)
+          ∙ ap (λ h. holder_through k h rest)
           (if-else (key == k) (Some wire) (holder k past) (ne_eqb key k (λ e. other (sym e))));
-      waiting = λ x rest. refl;
-      reported = λ x rest. refl;
-      arming = λ x rest. refl;
+      waiting = λ x rest. opening-fold (waits_by x) (λ s w q a. refl) wire key dials rest (waits x wire past);
+      reported = λ x rest. opening-fold (reported_by x) (λ s w q a. refl) wire key dials rest (reported x wire past);
+      arming = λ x rest. opening-fold (armed_by x) (λ s w q a. refl) wire key dials rest (stays_armed x wire past);
       armed = λ x up. absurd (both_ways true (sym up ∙ un.waits x) refl);
-      pausing = λ last rest. refl;
+      pausing = λ last rest. opening-fold last_stop_by (λ s w q a. refl) wire key dials rest last;
       single = λ k keyed. absurd (none-some k (sym un.key ∙ keyed));
       free = λ held at. absurd (none-some held (sym free ∙ at));
     }
@@ -251,23 +254,28 @@ begun-later past from sources shows at =
 -- ---- each kind of visit
 
 pub failed-dial-shows : FailedDialShows
-failed-dial-shows wire past sources question answer shows keyless =
-    let v : List Event = event.Dial wire question answer ∷ [] in
-    keyless-shows past wire v sources shows keyless ((own-behind wire past v).key ∙ keyless) (λ k h. refl)
+failed-dial-shows wire past sources dials shows keyless =
+    let v : List Event = dials_of wire dials in
+    keyless-shows past wire v sources shows keyless
+    ((own-behind wire past v).key ∙ (dials-still key_by (λ s w q a. refl) wire dials (key_of wire past) ∙ keyless))
+    (λ k h. dials-still (holder_by k) (λ s w q a. refl) wire dials h)
 
 pub first-asleep-shows : FirstAsleepShows
-first-asleep-shows wire key past sources question answer to calls arm begin end shows none free c =
-    let dialled : List Event = event.Dial wire question answer ∷ (event.Add wire key true ∷ []) in
-    asleep-shows past wire key dialled (registered_at wire past key question answer) (idle wire key) sources
-    (with_held sources (idle wire key)) (begun-first past wire key question answer sources shows none free) shows calls
-    arm to c.called c.asked
+first-asleep-shows wire key past sources dials to calls arm begin end shows none free c =
+    let S : List Held → Type 0 = λ hs. ShowsAsleep (past ▸ visit wire (opening wire key dials ++ (calls ++ arm))) hs wire
+    key to in
+    subst S (sym (opening-sources wire key dials (calls ++ arm) sources))
+    (asleep-shows past wire key (opening wire key dials) (registered_at wire past key) (idle wire key) sources
+    (with_held sources (idle wire key)) (begun-first past wire key dials sources shows none free) shows calls arm to
+    c.called c.asked)
 
 pub first-over-shows : FirstOverShows
-first-over-shows wire key past sources question answer to calls begin end shows none free c =
-    let dialled : List Event = event.Dial wire question answer ∷ (event.Add wire key true ∷ []) in
-    over-shows past wire key dialled (registered_at wire past key question answer) (idle wire key) sources
-    (with_held sources (idle wire key)) (begun-first past wire key question answer sources shows none free) shows calls
-    c.called
+first-over-shows wire key past sources dials to calls begin end shows none free c =
+    let tail : List Event = calls ++ event.Delete wire key true ∷ [] in
+    let S : List Held → Type 0 = λ hs. Shows (past ▸ visit wire (opening wire key dials ++ tail)) hs in
+    subst S (sym (opening-sources wire key dials tail sources))
+    (over-shows past wire key (opening wire key dials) (registered_at wire past key) (idle wire key) sources
+    (with_held sources (idle wire key)) (begun-first past wire key dials sources shows none free) shows calls c.called)
 
 pub later-asleep-shows : LaterAsleepShows
 later-asleep-shows past sources from to calls arm begin end shows at c =

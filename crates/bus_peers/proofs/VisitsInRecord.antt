@@ -1,24 +1,21 @@
 -- What a visit over the reactor comes to, in the record.
 use Rattle.std.proofs.Common.{◌≡◌, ◌≢◌, ℕ, ◌+◌, ◌<◌, Bool, true, false, not, ◌||◌, nat_lt, if◌then◌else◌, List, [], ◌∷◌, ◌++◌, map, length, Option, Some, None, is_some, is_none, refl, sym, ◌∙◌, ap, subst, inl, arith}
 use Rattle.std.specs.Prelude.{count_by, sum_by}
-use Rattle.std.specs.Option.{option_and_then}
+use Rattle.std.specs.Option.{option_map, option_and_then}
 use Rattle.std.proofs.lemmas.List.{append-nil}
 use Rattle.std.proofs.lemmas.List.Sums.{sum_by-append, fold-append}
-use Rattle.std.proofs.lemmas.Bool.{both_ways, ne_eqb, eq-eqb, and_parts, lt-ltb}
+use Rattle.std.proofs.lemmas.Bool.{both_ways, ne_eqb, eq-eqb, lt-ltb}
 use Rattle.std.proofs.lemmas.Option.{none-some, same_Some}
 use Rattle.react_core.specs.declared.outside.Event.{Event}
 use Rattle.react_core.specs.declared.outside.Event.TheVariants as event
 use Rattle.react_core.specs.declared.outside.RecvAnswer.TheVariants as recv_answer
 use Rattle.react_core.specs.declared.outside.SendAnswer.TheVariants as send_answer
-use Rattle.react_core.specs.declared.outside.DialAnswer.{DialAnswer}
-use Rattle.react_core.specs.declared.outside.DialAnswer.TheVariants as dial_answer
-use Rattle.react_core.specs.declared.outside.Question.{Question}
 use Rattle.react_core.specs.declared.reactor.Dir.{Dir}
 use Rattle.react_core.specs.declared.reactor.Dir.TheVariants.{Read, Write}
 use Rattle.react_core.specs.Core.{Core, inserted}
 use Rattle.react_core.specs.Told.{told, told-told}
 use Rattle.bus_opening.specs.Talk.{Said, talk, ask, ask_from}
-use Rattle.bus_opening.specs.Client.{client, piece, opening, terms_of}
+use Rattle.bus_opening.specs.Client.{client, piece, opening as first_pieces, terms_of}
 use Rattle.bus_opening.specs.Server.{server}
 use Rattle.bus_opening.specs.Openings.{Opening, StandsIn}
 use Rattle.bus_session.specs.declared.ended.Ending.{Ending}
@@ -27,14 +24,17 @@ use Rattle.bus_session.specs.declared.ended.Ended.{Ended}
 use Rattle.bus_session.specs.declared.session.Session.{Session}
 use Rattle.bus_session.specs.declared.session.Party.{Party}
 use Rattle.bus_session.specs.declared.session.Party.TheVariants as party
-use Rattle.bus_session.specs.Sessions.{is_built, is_built_party}
-use Rattle.bus_session.specs.Dialling.{Dialling, Opened, asks as dial_asks, fails, opens, the_wire, is_same, answered, dialled, conversation}
+use Rattle.bus_session.specs.Sessions.{is_built}
+use Rattle.bus_address.specs.Reading.{address as address_of}
+use Rattle.bus_session.specs.Dialling.{Dialling, Opened, asks as dial_asks, fails, opens, dialled, conversation}
+use Rattle.bus_session.specs.Dialling as dialling
 use Rattle.bus_session.specs.Parts.{part}
 use Rattle.bus_session.specs.Outcomes.{Outcome, outcome, is_waiting, is_ended}
 use Rattle.bus_session.specs.Alone.{Course, course, first_course, converses, silence, came_to, goes_through, outcome_of, outcome_in, has_reached}
 use Rattle.bus_record.specs.Pieces as pieces
 use Rattle.bus_record.specs.Pieces.{Pieces, ◌▸◌, visit, is_modify}
-use Rattle.bus_record.specs.Places.{key_of, key_by, key_through, waits, waits_through, paused, last_stop, moment, last_reading}
+use Rattle.bus_record.specs.Places.{key_of, key_by, key_through, waits, waits_by, waits_through, paused, last_stop, last_stop_by}
+use Rattle.bus_record.specs.Places.{moment, last_reading, last_reading_by}
 use Rattle.bus_record.specs.Visits.{Here, here, Visit}
 use Rattle.bus_record.specs.Settled.{comes_to}
 use Rattle.bus_peers.specs.declared.visiting.Slot.{Slot}
@@ -45,10 +45,10 @@ use Rattle.bus_peers.specs.Headline.{after_begun}
 use Rattle.bus_peers.specs.inside.Registry.{Held, Idle, Waits, Reported, waits as held_waits, side_held, stopped_held, held_at, with_held, idle, registry}
 use Rattle.bus_peers.specs.inside.Asking.{Asking, asks, asking_at, begins, arms_at}
 use Rattle.bus_peers.specs.inside.Shows.{StandsAt, Shows}
-use Rattle.bus_peers.specs.inside.RegisteredVisits.{FirstDial, opened_course, Converses, Concludes, LeavesAsleep}
+use Rattle.bus_peers.specs.inside.RegisteredVisits.{FirstDials, opened_course, Converses, Concludes, LeavesAsleep}
 use Rattle.bus_peers.specs.inside.Shown.{IsBetweenCalls, shown}
 use Rattle.bus_peers.specs.inside.Slots.{IsNew, Stands, VisitInRecord}
-use Rattle.bus_peers.specs.inside.Conversations.{unix_wire, AsksFirst}
+use Rattle.bus_peers.specs.inside.Dials.{Answered, dials_of, dials_through, opening, DialsTo}
 use Rattle.bus_peers.specs.inside.Visited as visited
 use Rattle.bus_peers.specs.inside.Visited.{is_awake, arms_told, stands_at, Pauses, MakesRegisteredVisit, RegisteredVisit, FirstVisits}
 use Rattle.bus_peers.proofs.PollInRecord.{part-append, goes-append, part-own, part-other}
@@ -56,9 +56,11 @@ use Rattle.bus_peers.proofs.Sides.{side-waits}
 use Rattle.bus_peers.proofs.OtherWiresStay.{with-here}
 use Rattle.bus_peers.proofs.NotReadyNotes.{begun-still}
 use Rattle.bus_peers.proofs.OtherWires.{unvisited}
+use Rattle.bus_peers.proofs.DialFolds.{dials-still, opening-fold, opening-sources, opening-armings, opening-waits, opening-part, opening-other}
+use Rattle.bus_peers.proofs.DialFolds.{dials-armings, dials-waits, dials-part, dials-other}
 use Rattle.bus_peers.specs.inside.Shows.{ShowsAsleep}
 use Rattle.bus_peers.proofs.StayShows.{failed-dial-shows, first-asleep-shows, first-over-shows, later-asleep-shows, later-over-shows}
-use Rattle.bus_peers.proofs.WholeVisits.{registered_at, stands-idle, first-question, first-visits-fail, first-visits-sleep, first-visits-end, later-visits-sleep, later-visits-end, stays-leave-places}
+use Rattle.bus_peers.proofs.WholeVisits.{registered_at, stands-idle, first-visits-fail, first-visits-sleep, first-visits-end, later-visits-sleep, later-visits-end, stays-leave-places}
 
 -- ---- what the events of a visit leave as it was
 
@@ -147,6 +149,7 @@ part-quiet w q v none = part-append w q v ∙ (ap (λ x. part w q ++ x) none ∙
 pub awake-ends : (e : Ending) → is_awake e ≡ true → is_waiting e ≡ false
 awake-ends ending.Waiting up = absurd (both_ways false refl up)
 awake-ends (ending.Open guid flag) up = refl
+awake-ends (ending.Address reason) up = refl
 awake-ends ending.Unsupported up = refl
 awake-ends ending.Connection up = refl
 awake-ends ending.Io up = refl
@@ -316,88 +319,74 @@ module _ (s : Session) (wire key : ℕ) (past : Pieces) (r0 r1 : Option (List Ev
 
 -- ---- a session that was not visited before
 
--- the question that is asked
-abbrev asked_by : Question → Dialling → Question
-asked_by other (dial_asks question purpose) = question
-asked_by other d = other
+-- its Dials come to this
+first-dials : (s : Session) (wire : ℕ) (past : Pieces) (dials : List Answered) (to : Dialling) → IsNew wire past →
+    dials_through (dialling.begins s.party) dials ≡ Some to → FirstDials s wire past dials to
+first-dials s wire past dials to new comes = record { comes = comes; unvisited = new.unvisited; unheard = new.unheard }
 
--- its dialling asks this question, and is answered
-record Asked (s : Session) (wire : ℕ) (past : Pieces) (asked : Question) : Type 0 where
-  same : is_same asked asked ≡ true
-  failed : FirstDial s wire past asked dial_answer.Failed (fails ending.Connection)
-  opened : (passes : Bool) → FirstDial s wire past asked (dial_answer.Opened passes) (opens (unix_wire passes))
+-- a session after its Dials
+abbrev dialling_course : Session → Dialling → Course
+dialling_course s d = record { party = s.party; progress = came_to s.party d }
 
-asked-first : (s : Session) (wire : ℕ) (past : Pieces) (asked : Question) → is_built s ≡ true → AsksFirst s asked → IsNew wire past → Asked s wire past asked
-asked-first s wire past asked built first new =
-    let q = first-question s.party (and_parts (is_none s.deadline) (is_built_party s.party) built).1 in
-    let one : q.0 ≡ asked = ap (asked_by asked) (same_Some (dial_asks q.0 the_wire) (dial_asks asked the_wire) (sym q.1 ∙ first)) in
-    let same : is_same asked asked ≡ true = subst (λ (x : Question). is_same x x ≡ true) one q.2 in
-    record {
-      same = same;
-      failed = record {
-        first = dial_asks asked the_wire;
-        begins = first;
-        comes = ap (λ b. if b then answered the_wire dial_answer.Failed else None) same;
-        unvisited = new.unvisited;
-        unheard = new.unheard;
-      };
-      opened = λ passes. record {
-        first = dial_asks asked the_wire;
-        begins = first;
-        comes = ap (λ b. if b then answered the_wire (dial_answer.Opened passes) else None) same;
-        unvisited = new.unvisited;
-        unheard = new.unheard;
-      };
-    }
+course_at : (s : Session) (wire : ℕ) (d to : Dialling) (a : Answered) (dials : List Answered) (o : Option Dialling) →
+    dialled d a.question a.answer ≡ o →
+    ((next : Dialling) → dials_through next dials ≡ Some to →
+    goes_through (Some (dialling_course s next)) (dials_of wire dials) ≡ Some (dialling_course s to)) →
+    option_and_then (λ next. dials_through next dials) o ≡ Some to →
+    goes_through (Some (dialling_course s d)) (dials_of wire (a ∷ dials)) ≡ Some (dialling_course s to)
+course_at s wire d to a dials None is go comes = absurd (none-some (dialling_course s to) (ap (option_map (dialling_course s)) comes))
+course_at s wire (dial_asks question purpose) to a dials (Some next) is go comes =
+    ap (λ o. goes_through (option_map (λ p. record { party = s.party; progress = p }) (option_map (came_to s.party) o)) (dials_of wire dials)) is
+    ∙ go next comes
+course_at s wire (fails e) to a dials (Some next) is go comes = absurd (none-some next is)
+course_at s wire (opens o) to a dials (Some next) is go comes = absurd (none-some next is)
 
-course-dialled : (s : Session) (wire : ℕ) (asked : Question) (answer : DialAnswer) (d : Dialling) → AsksFirst s asked → dialled (dial_asks asked the_wire) asked answer ≡ Some d →
-    course s (event.Dial wire asked answer ∷ []) ≡ Some (record { party = s.party; progress = came_to s.party d })
+course-by : (s : Session) (wire : ℕ) (d to : Dialling) (dials : List Answered) → dials_through d dials ≡ Some to →
+    goes_through (Some (dialling_course s d)) (dials_of wire dials) ≡ Some (dialling_course s to)
+course-by s wire d to [] comes = ap (option_map (dialling_course s)) comes
+course-by s wire d to (a ∷ dials) comes =
+    course_at s wire d to a dials (dialled d a.question a.answer) refl (λ next then_. course-by s wire next to dials then_) comes
+
+course-dialled : (s : Session) (wire : ℕ) (dials : List Answered) (to : Dialling) →
+    dials_through (dialling.begins s.party) dials ≡ Some to → course s (dials_of wire dials) ≡ Some (dialling_course s to)
 unfolding course
-course-dialled s wire asked answer d first comes = rw (first, comes) refl
-
-dial-part : (w : ℕ) (asked : Question) (answer : DialAnswer) (v : List Event) → part w (event.Dial w asked answer ∷ v) ≡ event.Dial w asked answer ∷ part w v
-dial-part w asked answer v = rw (eq-eqb w w refl) refl
-
-dial-other : (wire w : ℕ) (asked : Question) (answer : DialAnswer) (v : List Event) → w ≢ wire → part w (event.Dial wire asked answer ∷ v) ≡ part w v
-dial-other wire w asked answer v other = rw (ne_eqb wire w (λ e. other (sym e))) refl
+course-dialled s wire dials to comes = course-by s wire (dialling.begins s.party) to dials comes
 
 none-is : {X : Type 0} (o : Option X) → is_none o ≡ true → o ≡ None
 none-is None is = refl
 none-is (Some x) is = absurd (both_ways false refl is)
 
 pub built-late : (s : Session) → is_built s ≡ true → s.deadline ≡ None
-built-late s built = none-is s.deadline (and_parts (is_none s.deadline) (is_built_party s.party) built).0
+built-late s built = none-is s.deadline built
 
-goes-undialled : (s : Session) (wire : ℕ) (past : Pieces) (r0 r1 : Option (List Event)) (old : Core) (asked : Question) → is_built s ≡ true → IsNew wire past → IsBetweenCalls old →
-    AsksFirst s asked → r1 ≡ told r0 (event.Dial wire asked dial_answer.Failed ∷ []) → Shows past (map shown old.sources) →
-    VisitInRecord s wire past r0 r1 old old (slot.Ended (record { ending = ending.Connection; written = []; leftover = []; wire = wire; moment = None })) (event.Dial wire asked dial_answer.Failed ∷ [])
-goes-undialled s wire past r0 r1 old asked built new rests first gained shows =
-    let dial : Event = event.Dial wire asked dial_answer.Failed in
-    let v : List Event = dial ∷ [] in
-    let a : Asked s wire past asked = asked-first s wire past asked built first new in
-    let o : Outcome = record { ending = ending.Connection; written = []; leftover = [] } in
-    let mine : part wire (pieces.told past ++ v) ≡ v = part-append wire (pieces.told past) v ∙ (ap (λ x. x ++ part wire v) new.unheard ∙ dial-part wire asked dial_answer.Failed []) in
+goes-undialled : (s : Session) (wire : ℕ) (past : Pieces) (r0 r1 : Option (List Event)) (old : Core) (dials : List Answered) (failure : Ending) → IsNew wire past →
+    IsBetweenCalls old → DialsTo wire (dialling.begins s.party) (fails failure) r0 r1 dials → is_awake failure ≡ true →
+    Shows past (map shown old.sources) →
+    VisitInRecord s wire past r0 r1 old old (slot.Ended (record { ending = failure; written = []; leftover = []; wire = wire; moment = None })) (dials_of wire dials)
+goes-undialled s wire past r0 r1 old dials failure new rests to awake shows =
+    let v : List Event = dials_of wire dials in
+    let o : Outcome = record { ending = failure; written = []; leftover = [] } in
+    let mine : part wire (pieces.told past ++ v) ≡ v = part-append wire (pieces.told past) v ∙ (ap (λ x. x ++ part wire v) new.unheard ∙ dials-part wire dials) in
     let late : Bool = has_reached s.deadline (moment wire (past ▸ visit wire v)) in
-    let comes : dialled (dial_asks asked the_wire) asked dial_answer.Failed ≡ Some (fails ending.Connection) = ap (λ b. if b then answered the_wire dial_answer.Failed else None) a.same in
     record {
-      gained = gained;
-      visits = first-visits-fail s wire past asked dial_answer.Failed ending.Connection a.failed;
-      shows = failed-dial-shows wire past (map shown old.sources) asked dial_answer.Failed shows (unvisited wire past new.unvisited).key;
-      others = λ w other. dial-other wire w asked dial_answer.Failed [] other;
+      gained = to.gained;
+      visits = first-visits-fail s wire past dials failure (first-dials s wire past dials (fails failure) new to.through);
+      shows = failed-dial-shows wire past (map shown old.sources) dials shows (unvisited wire past new.unvisited).key;
+      others = λ w other. dials-other wire w dials other;
       rests = rests;
       ticker = refl;
       made = refl;
-      begun = begun-still old.begun rests.fits;
-      waits = refl;
+      begun = begun-still old.begun rests.fits ∙ ap (after_begun old.begun) (sym (dials-armings wire dials));
+      waits = dials-waits wire dials;
       stands = λ pending. record {
         comes = record {
           on = refl;
-          at = sym (moment-here wire past v);
+          at = sym (moment-here wire past v ∙ dials-still last_reading_by (λ y w q a. refl) wire dials None);
           comes = ap (λ x. option_and_then (outcome_of late) (course s x)) mine
-              ∙ ap (option_and_then (outcome_of late)) (course-dialled s wire asked dial_answer.Failed (fails ending.Connection) first comes);
+              ∙ ap (option_and_then (outcome_of late)) (course-dialled s wire dials (fails failure) to.through);
         };
-        awake = refl;
-        gone = key-here wire past v ∙ (unvisited wire past new.unvisited).key;
+        awake = awake;
+        gone = key-here wire past v ∙ (dials-still key_by (λ y w q a. refl) wire dials (key_of wire past) ∙ (unvisited wire past new.unvisited).key);
       };
     }
 
@@ -410,51 +399,49 @@ some-length (x ∷ n) c l = omega arith
 begins-open : (p : Party) (o : Opened) → is_ended (outcome_in false (converses (conversation p o) silence)) ≡ false
 unfolding client server ask ask_from talk
 begins-open (party.Client address config) o =
-    let more : nat_lt 0 (sum_by length ((opening (terms_of config None o.passes o.tcp o.nonce)) ++ [])) ≡ true = lt-ltb 0 _ (some-length o.nonce 0 _) in
+    let more : nat_lt 0 (sum_by length ((first_pieces (terms_of config (dialling.guid_in (address_of address)) o.passes o.tcp o.nonce)) ++ [])) ≡ true = lt-ltb 0 _ (some-length o.nonce 0 _) in
     rw more refl
 begins-open (party.Server config) o = refl
 
 -- ---- a wire was opened
 
-module _ (s : Session) (wire key : ℕ) (past : Pieces) (asked : Question) (passes : Bool) (r0 r1 : Option (List Event)) (old mid new : Core) (talk : List (List ℕ) → Said) (client : Opening)
-    (built : is_built s ≡ true) (fresh : IsNew wire past) (shows : Shows past (map shown old.sources)) (first : AsksFirst s asked)
-    (begun : conversation s.party (unix_wire passes) ≡ talk) (stands : StandsIn talk [] client) (unwritten : client.written ≡ [])
+module _ (s : Session) (wire key : ℕ) (past : Pieces) (dials : List Answered) (wired : dialling.Opened) (r0 r1 : Option (List Event)) (old mid new : Core) (talk : List (List ℕ) → Said) (client : Opening)
+    (built : is_built s ≡ true) (fresh : IsNew wire past) (shows : Shows past (map shown old.sources))
+    (through : dials_through (dialling.begins s.party) dials ≡ Some (opens wired))
+    (begun : conversation s.party wired ≡ talk) (stands : StandsIn talk [] client) (unwritten : client.written ≡ [])
     (free : held_at (map shown old.sources) key ≡ None) (core : mid ≡ inserted old key wire)
     (added : with_held (map shown old.sources) (idle wire key) ≡ map shown mid.sources) where
-  abbrev dial : Event
-  dial = event.Dial wire asked (dial_answer.Opened passes)
+  -- where the conversation begins in the record
+  abbrev begun-at : Option (List Event)
+  begun-at = told (told r0 (dials_of wire dials)) (event.Add wire key true ∷ [])
 
-  abbrev add : Event
-  add = event.Add wire key true
-
-  -- a visit of these calls, behind the Dial and the Add
+  -- a visit of these calls, behind the Dials and the Add
   abbrev opened-visit : List Event → List Event
-  opened-visit v = dial ∷ (add ∷ v)
+  opened-visit v = opening wire key dials ++ v
 
   abbrev start : Course
-  start = opened_course s (unix_wire passes)
+  start = opened_course s wired
 
   start-so : stands_at s.party talk [] client None ≡ start
   start-so = λ i. record { party = s.party; progress = converses (sym begun i) (record { got = []; written = unwritten i; paused = None }) }
 
-  a : Asked s wire past asked
-  a = asked-first s wire past asked built first fresh
+  dialled-so : FirstDials s wire past dials (opens wired)
+  dialled-so = first-dials s wire past dials (opens wired) fresh through
 
   idle-here : (h : Held) → held_at (map shown mid.sources) key ≡ Some h → h ≡ idle wire key
   idle-here h was = same_Some h (idle wire key) (sym was ∙ (ap (λ x. held_at x key) (sym added) ∙ with-here (map shown old.sources) (idle wire key) free))
 
-  heard : (v own : List Event) → part wire v ≡ own → part wire (pieces.told past ++ opened-visit v) ≡ dial ∷ own
+  heard : (v own : List Event) → part wire v ≡ own → part wire (pieces.told past ++ opened-visit v) ≡ dials_of wire dials ++ own
   heard v own mine =
       part-append wire (pieces.told past) (opened-visit v)
-      ∙ (ap (λ x. x ++ part wire (opened-visit v)) fresh.unheard ∙ (dial-part wire asked (dial_answer.Opened passes) (add ∷ v) ∙ ap (λ x. dial ∷ x) mine))
+      ∙ (ap (λ x. x ++ part wire (opened-visit v)) fresh.unheard ∙ (opening-part wire key dials v ∙ ap (λ x. dials_of wire dials ++ x) mine))
 
   course-here : (v own : List Event) (d : Course) → part wire v ≡ own → goes_through (Some start) own ≡ Some d →
       course s (part wire (pieces.told (past ▸ visit wire (opened-visit v)))) ≡ Some d
   course-here v own d mine goes =
       ap (course s) (heard v own mine)
-      ∙ (course-more s (dial ∷ []) own
-      ∙ (ap (λ x. goes_through x own) (course-dialled s wire asked (dial_answer.Opened passes) (opens (unix_wire passes)) first
-      (ap (λ b. if b then answered the_wire (dial_answer.Opened passes) else None) a.same))
+      ∙ (course-more s (dials_of wire dials) own
+      ∙ (ap (λ x. goes_through x own) (course-dialled s wire dials (opens wired) through)
       ∙ goes))
 
   comes-here : (v own : List Event) (d : Course) (o : Outcome) → part wire v ≡ own → goes_through (Some start) own ≡ Some d →
@@ -462,14 +449,27 @@ module _ (s : Session) (wire key : ℕ) (past : Pieces) (asked : Question) (pass
   comes-here v own d o mine goes is =
       ap (option_and_then (outcome_of (has_reached s.deadline (moment wire (past ▸ visit wire (opened-visit v)))))) (course-here v own d mine goes) ∙ is
 
-  gains : (v : List Event) → r1 ≡ told (told (told r0 (dial ∷ [])) (add ∷ [])) v → r1 ≡ told r0 (opened-visit v)
-  gains v gained = gained ∙ (ap (λ r. told r v) (told-told r0 (dial ∷ []) (add ∷ [])) ∙ told-told r0 (dial ∷ (add ∷ [])) v)
+  gains : (v : List Event) → r1 ≡ told begun-at v → r1 ≡ told r0 (opened-visit v)
+  gains v gained = gained ∙ (ap (λ r. told r v) (told-told r0 (dials_of wire dials) (event.Add wire key true ∷ [])) ∙ told-told r0 (opening wire key dials) v)
 
   others-opened : (w : ℕ) (v : List Event) → w ≢ wire → part w v ≡ [] → part w (opened-visit v) ≡ []
-  others-opened w v other none = dial-other wire w asked (dial_answer.Opened passes) (add ∷ v) other ∙ none
+  others-opened w v other none = opening-other wire w key dials v other ∙ none
+
+  -- the folds of such a visit begin behind the registration
+  key-opened : (v : List Event) → key_of wire (past ▸ visit wire (opened-visit v)) ≡ key_through (Some key) v
+  key-opened v = key-here wire past (opened-visit v) ∙ opening-fold key_by (λ y w q a. refl) wire key dials v (key_of wire past)
+
+  moment-opened : (v : List Event) → moment wire (past ▸ visit wire (opened-visit v)) ≡ last_reading None v
+  moment-opened v = moment-here wire past (opened-visit v) ∙ opening-fold last_reading_by (λ y w q a. refl) wire key dials v None
+
+  paused-opened : (v : List Event) → paused wire (past ▸ visit wire (opened-visit v)) ≡ last_stop (paused wire past) v
+  paused-opened v = paused-here wire past (opened-visit v) ∙ opening-fold last_stop_by (λ y w q a. refl) wire key dials v (paused wire past)
+
+  waits-opened : (x : Dir) (v : List Event) → waits x wire (past ▸ visit wire (opened-visit v)) ≡ waits_through x (waits x wire past) v
+  waits-opened x v = waits-here x wire past (opened-visit v) ∙ opening-fold (waits_by x) (λ y w q a. refl) wire key dials v (waits x wire past)
 
   first-ended : (e : Ended) (h h' : Held) (calls : List Event) (o : Option (List Event)) →
-      RegisteredVisit wire key (told (told r0 (dial ∷ [])) (add ∷ [])) r1 mid new client (slot.Ended e) h h' calls o →
+      RegisteredVisit wire key begun-at r1 mid new client (slot.Ended e) h h' calls o →
       VisitInRecord s wire past r0 r1 old new (slot.Ended e) (opened-visit (calls ++ event.Delete wire key true ∷ []))
   first-ended e h h' calls o x =
       let tail : List Event = event.Delete wire key true ∷ [] in
@@ -484,38 +484,38 @@ module _ (s : Session) (wire key : ℕ) (past : Pieces) (asked : Question) (pass
         asked = ap (λ y. asks (Some (begins y)) calls) (sym (idle-here h x.was)) ∙ (x.asked ∙ ap (λ y. Some (record { held = h'; over = y })) x.stays.over);
         through = d.1;
       } in
-      let over : Concludes start d.0 = record { was_open = begins-open s.party (unix_wire passes); ended = ended-out false d.0 e x.stays.awake d.2 } in
+      let over : Concludes start d.0 = record { was_open = begins-open s.party wired; ended = ended-out false d.0 e x.stays.awake d.2 } in
       record {
         gained = gains v x.gained;
-        visits = first-visits-end s wire key past asked (dial_answer.Opened passes) (unix_wire passes) h' calls d.0 (built-late s built) (a.opened passes)
+        visits = first-visits-end s wire key past dials wired h' calls d.0 (built-late s built) dialled-so
             (shows.free key free) conv over;
-        shows = subst (λ y. Shows (past ▸ visit wire (opened-visit v)) y) (ap (λ y. registry y v) added ∙ x.shows)
-            (first-over-shows wire key past (map shown old.sources) asked (dial_answer.Opened passes) h' calls start d.0 shows fresh.unvisited free conv);
+        shows = subst (λ y. Shows (past ▸ visit wire (opened-visit v)) y) (opening-sources wire key dials v (map shown old.sources) ∙ (ap (λ y. registry y v) added ∙ x.shows))
+            (first-over-shows wire key past (map shown old.sources) dials h' calls start d.0 shows fresh.unvisited free conv);
         others = λ w other. others-opened w v other (others-stay wire w calls tail own refl other);
         rests = x.rests;
         ticker = x.ticker ∙ ap (λ y. y.ticker) core;
         made = x.made ∙ ap (λ y. y.made) core;
-        begun = x.begun ∙ (ap (λ y. after_begun y.begun (length (arms_told o))) core ∙ ap (after_begun old.begun) (sym (armings-stay wire calls tail own ∙ no-arms o x.stays.over)));
-        waits = x.waits;
+        begun = x.begun ∙ (ap (λ y. after_begun y.begun (length (arms_told o))) core ∙ ap (after_begun old.begun) (sym (opening-armings wire key dials v ∙ (armings-stay wire calls tail own ∙ no-arms o x.stays.over))));
+        waits = opening-waits wire key dials v ∙ x.waits;
         stands = λ pending. record {
           comes = record {
             on = x.stays.wired;
-            at = x.stays.unread ∙ sym (moment-here wire past (opened-visit v) ∙ calls-reading wire calls tail None own);
+            at = x.stays.unread ∙ sym (moment-opened v ∙ calls-reading wire calls tail None own);
             comes = comes-here v calls f.0 (outcome e) (own-stay wire calls tail own refl) f.1 f.2;
           };
           awake = x.stays.awake;
-          gone = key-here wire past (opened-visit v) ∙ key-append (Some key) calls tail;
+          gone = key-opened v ∙ key-append (Some key) calls tail;
         };
       }
 
   first-asleep : (sl : Sleeper) (h h' : Held) (calls : List Event) (o : Option (List Event)) (b' : List ℕ) →
-      RegisteredVisit wire key (told (told r0 (dial ∷ [])) (add ∷ [])) r1 mid new client (slot.Asleep sl) h h' calls o → Pauses talk [] client sl.client calls b' →
+      RegisteredVisit wire key begun-at r1 mid new client (slot.Asleep sl) h h' calls o → Pauses talk [] client sl.client calls b' →
       (arm : List Event) → o ≡ Some arm →
       VisitInRecord s wire past r0 r1 old new (slot.Asleep sl) (opened-visit (calls ++ arms_told o))
   first-asleep sl h h' calls o b' x goes arm is =
       let tail : List Event = arms_told o in
       let v : List Event = calls ++ tail in
-      let here' : Here = registered_at wire past key asked (dial_answer.Opened passes) in
+      let here' : Here = registered_at wire past key in
       let end : Course = stands_at s.party talk b' sl.client (Some goes.dir) in
       let own : AreCalls wire calls = x.own talk [] stands in
       let arming : IsArming o = is-arming h h' calls o x.asked in
@@ -526,25 +526,25 @@ module _ (s : Session) (wire key : ℕ) (past : Pieces) (asked : Question) (pass
         through = through;
       } in
       let told-so : calls ++ arm ≡ v = ap (λ y. calls ++ arms_told y) (sym is) in
-      let sides : StandsAt here' (idle wire key) = stands-idle wire past key asked (dial_answer.Opened passes) (unvisited wire past fresh.unvisited) in
+      let sides : StandsAt here' (idle wire key) = stands-idle wire past key (unvisited wire past fresh.unvisited) in
       let leaves : LeavesAsleep here' h' v = subst (LeavesAsleep here' h') told-so (stays-leave-places wire here' (idle wire key) h' calls arm start end sides conv) in
       let late : s.deadline ≡ None = built-late s built in
       record {
         gained = gains v x.gained;
         visits = subst (λ y. Visit s wire past (opened-visit y)) told-so
-            (first-visits-sleep s wire key past asked (dial_answer.Opened passes) (unix_wire passes) h' calls arm end late (a.opened passes) (shows.free key free) conv);
-        shows = subst (λ y. Shows (past ▸ visit wire (opened-visit v)) y) (ap (λ y. registry y v) added ∙ x.shows)
+            (first-visits-sleep s wire key past dials wired h' calls arm end late dialled-so (shows.free key free) conv);
+        shows = subst (λ y. Shows (past ▸ visit wire (opened-visit v)) y) (opening-sources wire key dials v (map shown old.sources) ∙ (ap (λ y. registry y v) added ∙ x.shows))
             (subst (λ y. Shows (past ▸ visit wire (opened-visit y)) (registry (map shown old.sources) (opened-visit y))) told-so
-            (first-asleep-shows wire key past (map shown old.sources) asked (dial_answer.Opened passes) h' calls arm start end shows fresh.unvisited free conv).shows);
+            (first-asleep-shows wire key past (map shown old.sources) dials h' calls arm start end shows fresh.unvisited free conv).shows);
         others = λ w other. others-opened w v other (others-stay wire w calls tail own (x.apart w) other);
         rests = x.rests;
         ticker = x.ticker ∙ ap (λ y. y.ticker) core;
         made = x.made ∙ ap (λ y. y.made) core;
-        begun = x.begun ∙ (ap (λ y. after_begun y.begun (length (arms_told o))) core ∙ ap (after_begun old.begun) (sym (armings-stay wire calls tail own ∙ arming.counted)));
-        waits = x.waits;
+        begun = x.begun ∙ (ap (λ y. after_begun y.begun (length (arms_told o))) core ∙ ap (after_begun old.begun) (sym (opening-armings wire key dials v ∙ (armings-stay wire calls tail own ∙ arming.counted))));
+        waits = opening-waits wire key dials v ∙ x.waits;
         stands = λ pending. record {
           open_ = x.stays.open_;
-          unread = moment-here wire past (opened-visit v) ∙ (calls-reading wire calls tail None own ∙ arming.unread None);
+          unread = moment-opened v ∙ (calls-reading wire calls tail None own ∙ arming.unread None);
           comes = comes-here v calls end _ (own-stay wire calls tail own (x.apart wire)) through
               (ap (λ l. outcome_of l end) (none-reached s.deadline (moment wire (past ▸ visit wire (opened-visit v))) late) ∙ goes.waiting s.party);
           talking = record {
@@ -555,20 +555,20 @@ module _ (s : Session) (wire key : ℕ) (past : Pieces) (asked : Question) (pass
             through = course-here v calls end (own-stay wire calls tail own (x.apart wire)) through;
           };
           paused = record {
-            registered = key-here wire past (opened-visit v) ∙ (key-append (Some key) calls tail ∙ (arming.keyless _ ∙ (calls-key wire calls (Some key) own ∙ ap Some (sym x.stays.at))));
+            registered = key-opened v ∙ (key-append (Some key) calls tail ∙ (arming.keyless _ ∙ (calls-key wire calls (Some key) own ∙ ap Some (sym x.stays.at))));
             dir = leaves.dir;
-            last = paused-here wire past (opened-visit v) ∙ leaves.stop _;
-            waits_or_due = inl (waits-here leaves.dir wire past (opened-visit v) ∙ (side-waits _ _ (side_held leaves.dir h') (leaves.sides leaves.dir) ∙ leaves.waits));
+            last = paused-opened v ∙ leaves.stop _;
+            waits_or_due = inl (waits-opened leaves.dir v ∙ (side-waits _ _ (side_held leaves.dir h') (leaves.sides leaves.dir) ∙ leaves.waits));
           };
         };
       }
 
   opened-found : (sl : Sleeper) (h h' : Held) (calls : List Event) (o : Option (List Event)) →
-      RegisteredVisit wire key (told (told r0 (dial ∷ [])) (add ∷ [])) r1 mid new client (slot.Asleep sl) h h' calls o → (b' : List ℕ) × Pauses talk [] client sl.client calls b' →
+      RegisteredVisit wire key begun-at r1 mid new client (slot.Asleep sl) h h' calls o → (b' : List ℕ) × Pauses talk [] client sl.client calls b' →
       (arm : List Event) × (o ≡ Some arm) → (v : List Event) × VisitInRecord s wire past r0 r1 old new (slot.Asleep sl) v
   opened-found sl h h' calls o x (b', goes) (arm, is) = (opened-visit (calls ++ arms_told o), first-asleep sl h h' calls o b' x goes arm is)
 
-  opened-goes : (c : Slot) → MakesRegisteredVisit wire key (told (told r0 (dial ∷ [])) (add ∷ [])) r1 mid new client c → (v : List Event) × VisitInRecord s wire past r0 r1 old new c v
+  opened-goes : (c : Slot) → MakesRegisteredVisit wire key begun-at r1 mid new client c → (v : List Event) × VisitInRecord s wire past r0 r1 old new c v
   opened-goes (slot.Ended e) (h, h', calls, o, x) = (opened-visit (calls ++ event.Delete wire key true ∷ []), first-ended e h h' calls o x)
   opened-goes (slot.Asleep sl) (h, h', calls, o, x) = opened-found sl h h' calls o x (x.stays.goes talk [] stands) (some-arms o x.stays.over)
   opened-goes slot.Refused (h, h', calls, o, x) = absurd x.stays
@@ -577,15 +577,15 @@ module _ (s : Session) (wire key : ℕ) (past : Pieces) (asked : Question) (pass
 
 pub goes-first : (s : Session) (wire : ℕ) (past : Pieces) (r0 r1 : Option (List Event)) (old new : Core) (c : Slot) → is_built s ≡ true → Shows past (map shown old.sources) → IsNew wire past → IsBetweenCalls old →
     FirstVisits s wire r0 r1 old new c → (v : List Event) × VisitInRecord s wire past r0 r1 old new c v
-goes-first s wire past r0 r1 old new c built shows fresh rests (visited.undialled asked e first gained still is says) =
-    let dial : Event = event.Dial wire asked dial_answer.Failed in
-    let went : VisitInRecord s wire past r0 r1 old old (slot.Ended (record { ending = ending.Connection; written = []; leftover = []; wire = wire; moment = None })) (dial ∷ []) =
-    goes-undialled s wire past r0 r1 old asked built fresh rests first gained shows in
-    let Q : Slot → Type 0 = λ y. VisitInRecord s wire past r0 r1 old old y (dial ∷ []) in
-    let R : Core → Type 0 = λ x. VisitInRecord s wire past r0 r1 old x c (dial ∷ []) in
-    (dial ∷ [], subst R (sym still) (subst Q (sym (is ∙ ap (λ y. slot.Ended y) says)) went))
-goes-first s wire past r0 r1 old new c built shows fresh rests (visited.dialled asked passes first (talk, client, key, mid, r)) =
-    opened-goes s wire key past asked passes r0 r1 old mid new talk client built fresh shows first r.begins r.stands r.unwritten r.free r.core r.shows c r.stays
+goes-first s wire past r0 r1 old new c built shows fresh rests (visited.undialled dials failure e to awake still is says) =
+    let went : VisitInRecord s wire past r0 r1 old old (slot.Ended (record { ending = failure; written = []; leftover = []; wire = wire; moment = None })) (dials_of wire dials) =
+    goes-undialled s wire past r0 r1 old dials failure fresh rests to awake shows in
+    let Q : Slot → Type 0 = λ y. VisitInRecord s wire past r0 r1 old old y (dials_of wire dials) in
+    let R : Core → Type 0 = λ x. VisitInRecord s wire past r0 r1 old x c (dials_of wire dials) in
+    (dials_of wire dials, subst R (sym still) (subst Q (sym (is ∙ ap (λ y. slot.Ended y) says)) went))
+goes-first s wire past r0 r1 old new c built shows fresh rests (visited.dialled dials wired on to (talk, client, key, mid, r)) =
+    let M : Option (List Event) → Type 0 = λ x. MakesRegisteredVisit wire key (told x (event.Add wire key true ∷ [])) r1 mid new client c in
+    opened-goes s wire key past dials wired r0 r1 old mid new talk client built fresh shows to.through r.begins r.stands r.unwritten r.free r.core r.shows c (subst M to.gained r.stays)
 
 again-found : (s : Session) (wire key : ℕ) (past : Pieces) (r0 r1 : Option (List Event)) (old new : Core) (c : Opening) (talk : List (List ℕ) → Said) (b : List ℕ) (paused-so : Option Dir) (sl : Sleeper) (h h' : Held)
     (calls : List Event) (o : Option (List Event)) → s.deadline ≡ None → Shows past (map shown old.sources) → StandsIn talk b c → course s (part wire (pieces.told past)) ≡ Some (stands_at s.party talk b c paused-so) →

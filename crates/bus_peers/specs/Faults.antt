@@ -10,6 +10,7 @@ use Rattle.bus_session.specs.declared.ended.Ended.{Ended}
 -- the wire itself did.
 abbrev pub EndingCounted : {Origin : Type 0} → ℕ → Ending → Outer Origin → Outer Origin → Type 0
 EndingCounted wire (ending.Open guid cap_unix_fd) before after = Unit {0}
+EndingCounted wire (ending.Address reason) before after = Unit {0}
 EndingCounted wire ending.Unsupported before after = Unit {0}
 EndingCounted wire ending.Connection before after = Rose (before.dial_faults wire) (after.dial_faults wire)
 EndingCounted wire ending.Io before after =

@@ -1,5 +1,6 @@
 -- How `open_all` keeps what it promises: relations between code and record.
 pub mod Conversations
+pub mod Dials
 pub mod RoundEvents
 pub mod Registry
 pub mod Asking

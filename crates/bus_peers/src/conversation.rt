@@ -2,9 +2,12 @@
 
 ghost use Rattle.std.specs.Prelude.{◌≡◌, [], false, IfOk};
 ghost use Rattle.bus_opening.specs.Openings.{Opening, StandsIn, written_of, rest_of, ended_of};
-ghost use Rattle.bus_peers.specs.inside.Conversations.{opening_of, unix_wire};
-ghost use Rattle.bus_session.specs.Dialling.{conversation};
+ghost use Rattle.bus_peers.specs.inside.Conversations.{opening_of};
+ghost use Rattle.bus_peers.specs.inside.Dials.{as_opened};
+ghost use Rattle.bus_session.specs.Dialling.{conversation, expects};
 
+use crate::dialling::OpenWire;
+use bus_address::Guid;
 use bus_opening::{Client, Handshake, Server, Step};
 use bus_session::Party;
 use react_core::outside::{OutOfMemory, Wire};
@@ -35,17 +38,21 @@ impl Conversation {
     pub(crate) fn begin(
         alloc: Global,
         party: &Party,
-        passes: bool,
+        expected: Option<Guid>,
+        opened: &OpenWire,
     ) -> Result<Conversation, OutOfMemory>
-        ensures stands { IfOk result (λ c. StandsIn (conversation party.now (unix_wire passes)) [] c) }
+        requires expected { expected ≡ expects party.now }
+        ensures stands { IfOk result (λ c. StandsIn (conversation party.now (as_opened opened.now)) [] c) }
         ensures written { IfOk result (λ c. c.written ≡ []) }
         ensures open { IfOk result (λ c. c.ended ≡ false) }
     {
         let side = match party {
             Party::Client { config, .. } => {
-                Side::Client(Client::new(alloc, config, None, passes, false, &[])?)
+                let nonce = opened.nonce.as_slice();
+                let (passes, tcp) = (opened.passes, opened.tcp);
+                Side::Client(Client::new(alloc, config, expected, passes, tcp, nonce)?)
             }
-            Party::Server(config) => Side::Server(Server::new(alloc, config, passes)?),
+            Party::Server(config) => Side::Server(Server::new(alloc, config, opened.passes)?),
         };
         Ok(Conversation { side })
     }

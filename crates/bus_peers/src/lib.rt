@@ -3,6 +3,7 @@
 
 mod closing;
 mod conversation;
+mod dialling;
 mod open;
 mod rounds;
 mod visiting;

@@ -5,22 +5,23 @@ ghost use Rattle.react_core.specs.Outer.{Keeps};
 ghost use Rattle.react_core.specs.Outer as part;
 ghost use Rattle.react_core.specs.Told.{told};
 ghost use Rattle.react_core.specs.declared.outside.Event.{Event};
-ghost use Rattle.bus_session.specs.declared.ended.Ending.TheVariants as ending;
-ghost use Rattle.bus_peers.specs.inside.SlotFaults.{DialCounted, PollEndCounted, SlotCounted};
+ghost use Rattle.bus_peers.specs.inside.SlotFaults.{PollEndCounted, SlotCounted};
 ghost use Rattle.bus_peers.specs.inside.Registry.{held_at};
-ghost use Rattle.bus_session.specs.Sessions.{is_built};
+ghost use Rattle.bus_session.specs.Dialling.{expects};
+ghost use Rattle.bus_peers.specs.inside.Dials.{as_opened};
 ghost use Rattle.bus_peers.specs.inside.Shown.{IsBetweenCalls, shown, tags, without_tag, has_wire};
-ghost use Rattle.bus_peers.specs.inside.Visited.{DialTold, ending_of, VisitCounted, KeepsCall, Holds, NotReadyNoted, VisitPolls, may_ask, OnAgain, last_poll_end, MakesRegisteredVisit, Registers, FirstVisits, FirstTags};
+ghost use Rattle.bus_peers.specs.inside.Visited.{ending_of, VisitCounted, KeepsCall, Holds, NotReadyNoted, VisitPolls, may_ask, OnAgain, last_poll_end, MakesRegisteredVisit, Registers, FirstVisits, FirstTags};
 ghost use Rattle.bus_peers.specs.declared.visiting.PollEnd.TheVariants as poll_end;
 ghost use Rattle.bus_peers.specs.inside.Registry.{Held};
 
 use crate::conversation::Conversation;
+use crate::dialling::{Dialled, OpenWire, dial};
 use crate::open::OpenError;
-use bus_address::plain_path;
+use bus_address::Guid;
 use bus_opening::{Handshake, Step, Verdict};
-use bus_session::{Ended, Ending, Party, Session};
+use bus_session::{Ended, Ending, Session};
 use futures::task::Poll;
-use react_core::outside::{Bytes, Dialer, Fault, Opened, OutOfMemory, Registrar, Wakes, Wire};
+use react_core::outside::{Bytes, Dialer, Registrar, Wakes, Wire};
 use react_core::reactor::{Dir, Reactor};
 use std::alloc::{AllocError, Global};
 
@@ -49,35 +50,6 @@ pub(crate) enum Slot {
     Asleep(Sleeper),
     /// Its visit was refused, and so is the whole call.
     Refused,
-}
-
-/// Dials for a session. None where the dialling failed.
-fn dial<D: Dialer>(
-    dialer: &mut D,
-    wire: u32,
-    session: &Session,
-) -> Result<Option<Opened>, OutOfMemory>
-    requires built { is_built session.now ≡ true }
-    ensures told { DialTold session.now wire result ((D.outer dialer.old).events) ((D.outer dialer.new).events) }
-    ensures dialled { DialCounted result ((D.outer dialer.old).dial_faults wire)
-        ((D.outer dialer.new).dial_faults wire) }
-    ensures keeps { Keeps (part.Dial wire) (D.outer dialer.old) (D.outer dialer.new) }
-{
-    match &session.party {
-        Party::Client { address, .. } => match plain_path(address.as_str()) {
-            Some(path) => match dialer.dial_unix(wire, path) {
-                Ok(opened) => Ok(Some(opened)),
-                Err(Fault::Failed) => Ok(None),
-                Err(Fault::OutOfMemory) => Err(OutOfMemory),
-            },
-            None => unreachable!(),
-        },
-        Party::Server(_) => match dialer.accept(wire) {
-            Ok(opened) => Ok(Some(opened)),
-            Err(Fault::Failed) => Ok(None),
-            Err(Fault::OutOfMemory) => Err(OutOfMemory),
-        },
-    }
 }
 
 /// The ending that a verdict is.
@@ -124,13 +96,13 @@ pub(crate) fn ended_of(
     })
 }
 
-/// What a session comes to whose dialling failed.
-fn unconnected(alloc: Global, wire: u32) -> Ended
+/// What a session comes to whose dialling failed so.
+fn unconnected(alloc: Global, wire: u32, ending: Ending) -> Ended
     ensures value { result
-        ≡ record { ending = ending.Connection; written = []; leftover = []; wire = wire; moment = None } }
+        ≡ record { ending = ending; written = []; leftover = []; wire = wire; moment = None } }
 {
     Ended {
-        ending: Ending::Connection,
+        ending,
         written: Bytes::from_vec(Vec::new(alloc)),
         leftover: Bytes::from_vec(Vec::new(alloc)),
         wire,
@@ -299,13 +271,14 @@ fn visit_opened<O: Wire + Registrar, W: Wakes>(
     wakes: &mut W,
     wire: u32,
     session: &Session,
-    passes: bool,
+    expected: Option<Guid>,
+    opened: &OpenWire,
 ) -> Result<Slot, OpenError>
-    requires built { is_built session.now ≡ true }
+    requires expected { expected ≡ expects session.now.party }
     requires rests { IsBetweenCalls reactor.old.core }
     requires new { has_wire wire (tags reactor.old.core.sources) ≡ false }
     ensures visited { IfOk result
-        (λ slot. Registers session.now wire passes ((O.outer outside.old).events) ((O.outer outside.new).events)
+        (λ slot. Registers session.now wire (as_opened opened.now) ((O.outer outside.old).events) ((O.outer outside.new).events)
         reactor.old.core reactor.new.core slot) }
     ensures tags { IfOk result (FirstTags wire (tags reactor.old.core.sources) (tags reactor.new.core.sources)) }
     ensures refused { OnErr result
@@ -316,7 +289,7 @@ fn visit_opened<O: Wire + Registrar, W: Wakes>(
     ensures keeps { Keeps (part.Visit wire) (O.outer outside.old) (O.outer outside.new) }
     ensures reports { reactor.new.events ≡ reactor.old.events }
 {
-    let client = Conversation::begin(alloc, &session.party, passes)?;
+    let client = Conversation::begin(alloc, &session.party, expected, opened)?;
     let key = reactor.insert_io(alloc, outside, wire)?;
     visit(
         alloc,
@@ -337,7 +310,6 @@ pub(crate) fn first_visit<O: Wire + Dialer + Registrar, W: Wakes>(
     wire: u32,
     session: &Session,
 ) -> Result<Slot, OpenError>
-    requires built { is_built session.now ≡ true }
     requires rests { IsBetweenCalls reactor.old.core }
     requires new { has_wire wire (tags reactor.old.core.sources) ≡ false }
     ensures visited { IfOk result
@@ -352,10 +324,12 @@ pub(crate) fn first_visit<O: Wire + Dialer + Registrar, W: Wakes>(
     ensures keeps { Keeps (part.Visit wire) (O.outer outside.old) (O.outer outside.new) }
     ensures reports { reactor.new.events ≡ reactor.old.events }
 {
-    match dial(outside, wire, session)? {
-        Some(opened) => {
-            visit_opened(alloc, reactor, outside, wakes, wire, session, opened.passes)
+    let reached = dial(alloc, outside, wire, &session.party)?;
+    match &reached.dialled {
+        Dialled::Opened(opened) => {
+            let expected = reached.expected;
+            visit_opened(alloc, reactor, outside, wakes, wire, session, expected, opened)
         }
-        None => Ok(Slot::Ended(unconnected(alloc, wire))),
+        Dialled::Failed(ending) => Ok(Slot::Ended(unconnected(alloc, wire, *ending))),
     }
 }

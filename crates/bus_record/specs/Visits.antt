@@ -9,7 +9,6 @@ use Rattle.react_core.specs.declared.reactor.Dir.TheVariants.{Read, Write}
 use Rattle.bus_session.specs.declared.session.Session.{Session}
 use Rattle.bus_session.specs.Parts.{part}
 use Rattle.bus_session.specs.Outcomes.{is_ended}
-use Rattle.bus_session.specs.Dialling.{is_dial}
 use Rattle.bus_session.specs.Alone.{Progress, dials, converses, over, Course, after, course, outcome_in, has_reached}
 use Rattle.bus_record.specs.Pieces.{Pieces, nothing, ◌▸◌, visit, round, told}
 use Rattle.bus_record.specs.Places.{key_of, holder, holder_by, waits, waits_by, reported, reported_by}
@@ -62,6 +61,11 @@ pub data Stage : Type 0 where
   leaving : ℕ → Course → Stage
   -- the visit is over
   finished : Stage
+
+-- a Dial of the wire
+abbrev pub is_dial : ℕ → Event → Bool
+is_dial wire (event.Dial w question answer) = w == wire
+is_dial wire e = false
 
 -- a read or a write of the wire
 abbrev pub is_call : ℕ → Event → Bool

@@ -1,11 +1,8 @@
 -- How a session dials (D-Bus specification, Server Addresses), and the conversation that it has over the wire then.
 use Rattle.std.specs.Prelude.{ℕ, Bool, true, false, ◌==◌, ◌&&◌, if◌then◌else◌, List, [], ◌∷◌, filter}
 use Rattle.std.specs.Prelude.{Option, Some, None, Result, Ok, Err}
-use Rattle.std.specs.Option.{option_and_then}
 use Rattle.std.specs.List.{list_all}
 use Rattle.std.specs.Str.{bytes_eq, is_utf8, trim}
-use Rattle.react_core.specs.declared.outside.Event.{Event}
-use Rattle.react_core.specs.declared.outside.Event.TheVariants as event
 use Rattle.react_core.specs.declared.outside.Peer.{Peer}
 use Rattle.react_core.specs.declared.outside.Peer.TheVariants as peer
 use Rattle.react_core.specs.declared.outside.Question.{Question}
@@ -197,21 +194,6 @@ is_same a b = false
 abbrev pub dialled : Dialling → Question → DialAnswer → Option Dialling
 dialled (asks wanted purpose) asked answer = if is_same wanted asked then answered purpose answer else None
 dialled d asked answer = None
-
--- a Dial of the wire
-abbrev pub is_dial : ℕ → Event → Bool
-is_dial wire (event.Dial w asked answer) = w == wire
-is_dial wire e = false
-
--- the dialling after one more event, if that is the Dial that it asks
-abbrev pub dialled_by : Dialling → Event → Option Dialling
-dialled_by d (event.Dial wire asked answer) = dialled d asked answer
-dialled_by d e = None
-
--- the same after all of these
-abbrev pub dials_through : Dialling → List Event → Option Dialling
-dials_through d [] = Some d
-dials_through d (e ∷ events) = option_and_then (λ to. dials_through to events) (dialled_by d e)
 
 -- ---- the conversation
 

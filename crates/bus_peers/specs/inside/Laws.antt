@@ -2,17 +2,12 @@
 use Rattle.std.specs.Prelude.{◌≡◌, ◌≢◌, ◌⊎◌, ℕ, Bool, true, false, List, [], ◌∷◌, ◌++◌, Some, None, is_some, slice_get}
 use Rattle.react_core.specs.declared.outside.Event.{Event}
 use Rattle.react_core.specs.declared.outside.Event.TheVariants as event
-use Rattle.react_core.specs.declared.outside.Question.{Question}
-use Rattle.react_core.specs.declared.outside.DialAnswer.{DialAnswer}
-use Rattle.react_core.specs.declared.outside.DialAnswer.TheVariants as dial_answer
 use Rattle.react_core.specs.declared.outside.Report.{Report}
 use Rattle.react_core.specs.declared.outside.WaitAnswer.TheVariants as wait_answer
 use Rattle.react_core.specs.Round.{reports_of, is_quiet}
 use Rattle.bus_session.specs.declared.session.Session.{Session}
 use Rattle.bus_session.specs.declared.ended.Ending.{Ending}
-use Rattle.bus_session.specs.declared.ended.Ending.TheVariants as ending
 use Rattle.bus_session.specs.Parts.{part}
-use Rattle.bus_session.specs.Sessions.{is_built}
 use Rattle.bus_session.specs.Dialling.{Opened, opens, fails}
 use Rattle.bus_session.specs.Alone.{Course, course}
 use Rattle.bus_record.specs.Pieces.{Round, visit, round, Pieces, ◌▸◌, told}
@@ -21,9 +16,10 @@ use Rattle.bus_record.specs.Visits.{Here, here, conversing, finished, goes_on, w
 use Rattle.bus_record.specs.Settled.{timeout_at, IsRound, is_woken, due}
 use Rattle.bus_record.specs.Settled as settled
 use Rattle.bus_peers.specs.inside.Due.{due_at, AreDue, NoDeadlines}
+use Rattle.bus_peers.specs.inside.Dials.{Answered, dials_of, opening}
 use Rattle.bus_peers.specs.inside.Registry.{after_reports_held, rearming, Held, idle, held_at, registry}
 use Rattle.bus_peers.specs.inside.Shows.{StandsAt, Shows, ShowsAsleep, StandsStill}
-use Rattle.bus_peers.specs.inside.RegisteredVisits.{FirstDial, opened_course, Converses, Concludes, LeavesAsleep}
+use Rattle.bus_peers.specs.inside.RegisteredVisits.{FirstDials, opened_course, Converses, Concludes, LeavesAsleep}
 
 -- ---- a visit
 
@@ -47,28 +43,28 @@ StaysLeavePlaces =
     (wire : ℕ) (h : Here) (from to : Held) (calls arm : List Event) (begin end : Course) → StandsAt h from →
     Converses wire from begin calls to (Some arm) end → LeavesAsleep h to (calls ++ arm)
 
--- A first visit whose dialling fails is its Dial alone.
+-- A first visit whose dialling fails is its Dials alone.
 abbrev pub FirstVisitsFail : Session → Type 0
 FirstVisitsFail s =
-    (wire : ℕ) (past : Pieces) (question : Question) (answer : DialAnswer) (e : Ending) →
-    FirstDial s wire past question answer (fails e) → Visit s wire past (event.Dial wire question answer ∷ [])
+    (wire : ℕ) (past : Pieces) (dials : List Answered) (e : Ending) →
+    FirstDials s wire past dials (fails e) → Visit s wire past (dials_of wire dials)
 
 -- A first visit whose dialling opened a wire: the source is added under a free key, and the calls follow.
 abbrev pub FirstVisitsSleep : Session → Type 0
 FirstVisitsSleep s =
-    (wire key : ℕ) (past : Pieces) (question : Question) (answer : DialAnswer) (o : Opened) (to : Held)
-    (calls arm : List Event) (end : Course) → s.deadline ≡ None → FirstDial s wire past question answer (opens o) →
+    (wire key : ℕ) (past : Pieces) (dials : List Answered) (o : Opened) (to : Held)
+    (calls arm : List Event) (end : Course) → s.deadline ≡ None → FirstDials s wire past dials (opens o) →
     holder key past ≡ None → Converses wire (idle wire key) (opened_course s o) calls to (Some arm) end →
-    Visit s wire past (event.Dial wire question answer ∷ (event.Add wire key true ∷ (calls ++ arm)))
+    Visit s wire past (opening wire key dials ++ (calls ++ arm))
 
 abbrev pub FirstVisitsEnd : Session → Type 0
 FirstVisitsEnd s =
-    (wire key : ℕ) (past : Pieces) (question : Question) (answer : DialAnswer) (o : Opened) (to : Held)
-    (calls : List Event) (end : Course) → s.deadline ≡ None → FirstDial s wire past question answer (opens o) →
+    (wire key : ℕ) (past : Pieces) (dials : List Answered) (o : Opened) (to : Held)
+    (calls : List Event) (end : Course) → s.deadline ≡ None → FirstDials s wire past dials (opens o) →
     holder key past ≡ None → Converses wire (idle wire key) (opened_course s o) calls to None end →
     Concludes (opened_course s o) end →
     Visit s wire past
-    (event.Dial wire question answer ∷ (event.Add wire key true ∷ (calls ++ event.Delete wire key true ∷ [])))
+    (opening wire key dials ++ (calls ++ event.Delete wire key true ∷ []))
 
 -- A later visit goes on with the conversation as far as it has come.
 abbrev pub LaterVisitsSleep : Session → Type 0
@@ -85,48 +81,32 @@ LaterVisitsEnd s =
     course s (part wire (told past)) ≡ Some begin → Converses wire from begin calls to None end →
     Concludes begin end → Visit s wire past (calls ++ event.Delete wire from.key true ∷ [])
 
--- A session that is taken asks one question, and its answer opens the wire or fails.
-pub record DialsOnce (s : Session) (wire : ℕ) (past : Pieces) : Type 0 where
-  pub question : Question
-  pub opened : (passes : Bool) →
-      FirstDial s wire past question (dial_answer.Opened passes)
-      (opens (record { passes = passes; tcp = false; nonce = [] }))
-  pub failed : FirstDial s wire past question dial_answer.Failed (fails ending.Connection)
-
-abbrev pub BuiltDialOnce : Session → Type 0
-BuiltDialOnce s =
-    (wire : ℕ) (past : Pieces) → is_built s ≡ true → was_visited wire past ≡ false → part wire (told past) ≡ [] →
-    DialsOnce s wire past
-
 -- ---- the sources behind a visit
 
--- Behind a Dial alone the sources are those that were there.
+-- Behind Dials alone the sources are those that were there.
 abbrev pub FailedDialShows : Type 0
 FailedDialShows =
-    (wire : ℕ) (past : Pieces) (sources : List Held) (question : Question) (answer : DialAnswer) →
-    Shows past sources → key_of wire past ≡ None →
-    Shows (past ▸ visit wire (event.Dial wire question answer ∷ [])) sources
+    (wire : ℕ) (past : Pieces) (sources : List Held) (dials : List Answered) →
+    Shows past sources → key_of wire past ≡ None → Shows (past ▸ visit wire (dials_of wire dials)) sources
 
 -- Behind each other visit the sources are those of the registry, folded over its events.
 abbrev pub FirstAsleepShows : Type 0
 FirstAsleepShows =
-    (wire key : ℕ) (past : Pieces) (sources : List Held) (question : Question) (answer : DialAnswer) (to : Held)
+    (wire key : ℕ) (past : Pieces) (sources : List Held) (dials : List Answered) (to : Held)
     (calls arm : List Event) (begin end : Course) → Shows past sources → was_visited wire past ≡ false →
     held_at sources key ≡ None → Converses wire (idle wire key) begin calls to (Some arm) end →
     ShowsAsleep
-    (past ▸ visit wire (event.Dial wire question answer ∷ (event.Add wire key true ∷ (calls ++ arm))))
-    (registry sources (event.Dial wire question answer ∷ (event.Add wire key true ∷ (calls ++ arm)))) wire key to
+    (past ▸ visit wire (opening wire key dials ++ (calls ++ arm)))
+    (registry sources (opening wire key dials ++ (calls ++ arm))) wire key to
 
 abbrev pub FirstOverShows : Type 0
 FirstOverShows =
-    (wire key : ℕ) (past : Pieces) (sources : List Held) (question : Question) (answer : DialAnswer) (to : Held)
+    (wire key : ℕ) (past : Pieces) (sources : List Held) (dials : List Answered) (to : Held)
     (calls : List Event) (begin end : Course) → Shows past sources → was_visited wire past ≡ false →
     held_at sources key ≡ None → Converses wire (idle wire key) begin calls to None end →
     Shows
-    (past ▸ visit wire (event.Dial wire question answer
-    ∷ (event.Add wire key true ∷ (calls ++ event.Delete wire key true ∷ []))))
-    (registry sources (event.Dial wire question answer
-    ∷ (event.Add wire key true ∷ (calls ++ event.Delete wire key true ∷ []))))
+    (past ▸ visit wire (opening wire key dials ++ (calls ++ event.Delete wire key true ∷ [])))
+    (registry sources (opening wire key dials ++ (calls ++ event.Delete wire key true ∷ [])))
 
 abbrev pub LaterAsleepShows : Type 0
 LaterAsleepShows =

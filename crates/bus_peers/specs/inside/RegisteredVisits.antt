@@ -1,13 +1,11 @@
 -- The parts of a visit: its first dialling, its calls over a registered wire, and how these leave the source.
 use Rattle.std.specs.Prelude.{◌≡◌, ℕ, Bool, true, false, List, [], Option, Some}
 use Rattle.react_core.specs.declared.outside.Event.{Event}
-use Rattle.react_core.specs.declared.outside.Question.{Question}
-use Rattle.react_core.specs.declared.outside.DialAnswer.{DialAnswer}
 use Rattle.react_core.specs.declared.reactor.Dir.{Dir}
 use Rattle.bus_session.specs.declared.session.Session.{Session}
 use Rattle.bus_session.specs.Parts.{part}
 use Rattle.bus_session.specs.Outcomes.{is_ended}
-use Rattle.bus_session.specs.Dialling.{Dialling, Opened, dialled, conversation}
+use Rattle.bus_session.specs.Dialling.{Dialling, Opened, conversation}
 use Rattle.bus_session.specs.Dialling as dialling
 use Rattle.bus_session.specs.Alone.{converses, silence, Course, goes_through, outcome_in}
 use Rattle.bus_record.specs.Pieces.{Pieces, told}
@@ -15,15 +13,13 @@ use Rattle.bus_record.specs.Places.{waits_through, reported_through, armed_throu
 use Rattle.bus_record.specs.Visits.{Here, was_visited}
 use Rattle.bus_peers.specs.inside.Registry.{Held, waits, side_held}
 use Rattle.bus_peers.specs.inside.Asking.{asks, begins}
+use Rattle.bus_peers.specs.inside.Dials.{Answered, dials_through}
 use Rattle.bus_peers.specs.inside.Calls.{AreCalls}
 use Rattle.bus_peers.specs.inside.Shows.{IsSide}
 
--- The first Dial of a session that had no visit: its dialling asks the question, and the answer comes to this.
-pub record FirstDial (s : Session) (wire : ℕ) (past : Pieces) (question : Question) (answer : DialAnswer)
-    (to : Dialling) : Type 0 where
-  pub first : Dialling
-  pub begins : dialling.begins s.party ≡ Some first
-  pub comes : dialled first question answer ≡ Some to
+-- The Dials of a session that had no visit: its dialling asks them, one after another, and they come to this.
+pub record FirstDials (s : Session) (wire : ℕ) (past : Pieces) (dials : List Answered) (to : Dialling) : Type 0 where
+  pub comes : dials_through (dialling.begins s.party) dials ≡ Some to
   pub unvisited : was_visited wire past ≡ false
   pub unheard : part wire (told past) ≡ []
 

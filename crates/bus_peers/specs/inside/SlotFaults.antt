@@ -1,19 +1,11 @@
 -- Which counts of faults the slots of a call, and its steps, show.
-use Rattle.std.specs.Prelude.{◌≡◌, ℕ, ◌+◌, List, [], ◌∷◌, Option, Some, None, Result, Ok, Err}
+use Rattle.std.specs.Prelude.{ℕ, ◌+◌, List, [], ◌∷◌}
 use Rattle.react_core.specs.Outer.{Outer, NoneFalls}
-use Rattle.react_core.specs.Told.{Rose}
-use Rattle.react_core.specs.declared.outside.Opened.{Opened}
 use Rattle.bus_peers.specs.declared.visiting.PollEnd.{PollEnd}
 use Rattle.bus_peers.specs.declared.visiting.PollEnd.TheVariants as poll_end
 use Rattle.bus_peers.specs.declared.visiting.Slot.{Slot}
 use Rattle.bus_peers.specs.declared.visiting.Slot.TheVariants as slot
 use Rattle.bus_peers.specs.Faults.{EndingCounted}
-
--- the dialling failed exactly where its count rose
-abbrev pub DialCounted : {E : Type 0} → Result (Option Opened) E → ℕ → ℕ → Type 0
-DialCounted (Ok None) before now = Rose before now
-DialCounted (Ok (Some opened)) before now = now ≡ before
-DialCounted (Err e) before now = now ≡ before
 
 -- how a poll ended
 abbrev pub PollEndCounted : {Origin : Type 0} → ℕ → PollEnd → Outer Origin → Outer Origin → Type 0

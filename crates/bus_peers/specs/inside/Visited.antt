@@ -3,9 +3,6 @@ use Rattle.std.specs.Prelude.{◌≡◌, ◌≢◌, ◌<◌, ◌≤◌, ℕ, ◌
 use Rattle.std.specs.Option.{option_and_then}
 use Rattle.react_core.specs.declared.outside.Event.{Event}
 use Rattle.react_core.specs.declared.outside.Event.TheVariants as event
-use Rattle.react_core.specs.declared.outside.Question.{Question}
-use Rattle.react_core.specs.declared.outside.DialAnswer.TheVariants as dial_answer
-use Rattle.react_core.specs.declared.outside.Opened.{Opened}
 use Rattle.react_core.specs.declared.reactor.Dir.{Dir}
 use Rattle.react_core.specs.Core.{Core, inserted}
 use Rattle.react_core.specs.Told.{told, Rose}
@@ -25,23 +22,20 @@ use Rattle.bus_peers.specs.declared.visiting.Slot.TheVariants as slot
 use Rattle.bus_peers.specs.declared.open.OpenError.{OpenError}
 use Rattle.bus_peers.specs.declared.open.OpenError.TheVariants as open_err
 use Rattle.bus_session.specs.Parts.{part}
-use Rattle.bus_session.specs.Dialling.{conversation}
+use Rattle.bus_session.specs.Dialling.{Opened, fails, opens, conversation, begins as begins_dialling}
 use Rattle.bus_session.specs.Alone.{Course, converses, goes_through, outcome_of}
 use Rattle.bus_peers.specs.Headline.{after_begun}
 use Rattle.bus_peers.specs.inside.Registry.{Held, Side, Idle, Waits, Reported, side_held, held_at, with_held, registry, noted, stopped_held}
 use Rattle.bus_peers.specs.inside.Asking.{asks, begins, arms_at}
 use Rattle.bus_peers.specs.inside.Calls.{AreCalls}
-use Rattle.bus_peers.specs.inside.Conversations.{unix_wire, AsksFirst}
+pub use Rattle.bus_peers.specs.inside.Dials.{is_awake}
+use Rattle.bus_peers.specs.inside.Dials.{Answered, DialsTo}
 use Rattle.bus_peers.specs.Counts.{waits_in}
 use Rattle.bus_peers.specs.inside.Shown.{IsBetweenCalls, shown, Tags, tags, without_tag, tag_at, has_wire, Single}
 
 -- the record grew
 abbrev pub Grows : Option (List Event) → Option (List Event) → Type 0
 Grows before after = (more : List Event) × (after ≡ told before more)
-
-abbrev pub is_awake : Ending → Bool
-is_awake ending.Waiting = false
-is_awake e = true
 
 -- the ending that a verdict is
 abbrev pub ending_of : Verdict → Ending
@@ -70,17 +64,6 @@ pub record Kept (expected : Tags) (before after : Option (List Event)) (old new 
 -- the same for some events
 abbrev pub KeepsCall : Tags → Option (List Event) → Option (List Event) → Core → Core → Type 0
 KeepsCall expected before after old new = (more : List Event) × Kept expected before after old new more
-
--- ---- dialling
-
--- the one Dial event of a session, and its answer
-abbrev pub dial_event : ℕ → Question → Option Opened → Event
-dial_event wire asked (Some opened) = event.Dial wire asked (dial_answer.Opened opened.passes)
-dial_event wire asked None = event.Dial wire asked dial_answer.Failed
-
-abbrev pub DialTold : {E : Type 0} → Session → ℕ → Result (Option Opened) E → Option (List Event) → Option (List Event) → Type 0
-DialTold s wire (Ok opened) before after = (asked : Question) × AsksFirst s asked × (after ≡ told before (dial_event wire asked opened ∷ []))
-DialTold s wire (Err e) before after = after ≡ told before []
 
 -- ---- a NotReady
 
@@ -244,8 +227,8 @@ MakesRegisteredVisit wire key before after old new c s =
 -- ---- a first visit
 
 -- a wire was opened: its source was registered, and the conversation begun
-pub record Registered (s : Session) (wire : ℕ) (passes : Bool) (before after : Option (List Event)) (old new : Core) (c : Slot) (talk : List (List ℕ) → Said) (client : Opening) (key : ℕ) (mid : Core) : Type 0 where
-  pub begins : conversation s.party (unix_wire passes) ≡ talk
+pub record Registered (s : Session) (wire : ℕ) (opened : Opened) (before after : Option (List Event)) (old new : Core) (c : Slot) (talk : List (List ℕ) → Said) (client : Opening) (key : ℕ) (mid : Core) : Type 0 where
+  pub begins : conversation s.party opened ≡ talk
   pub stands : StandsIn talk [] client
   pub unwritten : client.written ≡ []
   pub free : held_at (map shown old.sources) key ≡ None
@@ -253,9 +236,9 @@ pub record Registered (s : Session) (wire : ℕ) (passes : Bool) (before after :
   pub shows : with_held (map shown old.sources) (record { key = key; wire = wire; read = Idle; write = Idle }) ≡ map shown mid.sources
   pub stays : MakesRegisteredVisit wire key (told before (event.Add wire key true ∷ [])) after mid new client c
 
-abbrev pub Registers : Session → ℕ → Bool → Option (List Event) → Option (List Event) → Core → Core → Slot → Type 0
-Registers s wire passes before after old new c =
-    (talk : List (List ℕ) → Said) × (client : Opening) × (key : ℕ) × (mid : Core) × Registered s wire passes before after old new c talk client key mid
+abbrev pub Registers : Session → ℕ → Opened → Option (List Event) → Option (List Event) → Core → Core → Slot → Type 0
+Registers s wire opened before after old new c =
+    (talk : List (List ℕ) → Said) × (client : Opening) × (key : ℕ) × (mid : Core) × Registered s wire opened before after old new c talk client key mid
 
 -- a new session that sleeps has a new key
 abbrev pub FirstTags : ℕ → Tags → Tags → Slot → Type 0
@@ -265,8 +248,11 @@ FirstTags wire old new slot.Refused = ⊥
 
 pub data FirstVisits (s : Session) (wire : ℕ) (before after : Option (List Event)) (old new : Core) (c : Slot) : Type 0 where
   -- the dialling failed
-  undialled : (asked : Question) (e : Ended) → AsksFirst s asked →
-      after ≡ told before (event.Dial wire asked dial_answer.Failed ∷ []) → new ≡ old → c ≡ slot.Ended e →
-      e ≡ record { ending = ending.Connection; written = []; leftover = []; wire = wire; moment = None } → FirstVisits s wire before after old new c
-  dialled : (asked : Question) (passes : Bool) → AsksFirst s asked →
-      Registers s wire passes (told before (event.Dial wire asked (dial_answer.Opened passes) ∷ [])) after old new c → FirstVisits s wire before after old new c
+  undialled : (dials : List Answered) (failure : Ending) (e : Ended) →
+      DialsTo wire (begins_dialling s.party) (fails failure) before after dials → is_awake failure ≡ true → new ≡ old →
+      c ≡ slot.Ended e →
+      e ≡ record { ending = failure; written = []; leftover = []; wire = wire; moment = None } →
+      FirstVisits s wire before after old new c
+  dialled : (dials : List Answered) (opened : Opened) (mid : Option (List Event)) →
+      DialsTo wire (begins_dialling s.party) (opens opened) before mid dials →
+      Registers s wire opened mid after old new c → FirstVisits s wire before after old new c
