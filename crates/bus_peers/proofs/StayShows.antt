@@ -14,9 +14,9 @@ use Rattle.bus_record.specs.Pieces.{visit, Pieces, ◌▸◌}
 use Rattle.bus_record.specs.Places.{key_of, key_through, holder, holder_through, waits, waits_through, reported}
 use Rattle.bus_record.specs.Places.{reported_through, stays_armed, armed_through, paused, last_stop}
 use Rattle.bus_record.specs.Visits.{Here, here, was_visited}
-use Rattle.bus_peers.specs.inside.Registry.{Held, idle, held_at, registry, with_held, without_held}
-use Rattle.bus_peers.specs.inside.Registry as registry_of
-use Rattle.bus_peers.specs.inside.Calls.{AreCalls}
+use Rattle.bus_visit.specs.Registry.{Held, idle, held_at, registry, with_held, without_held}
+use Rattle.bus_visit.specs.Registry as registry_of
+use Rattle.bus_visit.specs.Calls.{AreCalls}
 use Rattle.bus_peers.specs.inside.Shows.{StandsAt, ShowsSource, KeysRise, Shows, ShowsAsleep}
 use Rattle.bus_peers.specs.inside.Laws.{FailedDialShows, FirstAsleepShows, FirstOverShows, LaterAsleepShows, LaterOverShows}
 use Rattle.bus_peers.specs.inside.Laws.{OthersStandStill}

@@ -37,24 +37,27 @@ use Rattle.bus_record.specs.Pieces.{Pieces, ◌▸◌, visit, is_modify}
 use Rattle.bus_record.specs.Places.{key_of, key_by, key_through, waits, waits_through, paused, last_stop, moment, last_reading}
 use Rattle.bus_record.specs.Visits.{Here, here, Visit}
 use Rattle.bus_record.specs.Settled.{comes_to}
-use Rattle.bus_peers.specs.declared.visiting.Slot.{Slot}
-use Rattle.bus_peers.specs.declared.visiting.Slot.TheVariants as slot
-use Rattle.bus_peers.specs.declared.visiting.Sleeper.{Sleeper}
-use Rattle.bus_peers.specs.inside.Calls.{AreCalls}
-use Rattle.bus_peers.specs.Headline.{after_begun}
-use Rattle.bus_peers.specs.inside.Registry.{Held, Idle, Waits, Reported, waits as held_waits, side_held, stopped_held, held_at, with_held, idle, registry}
-use Rattle.bus_peers.specs.inside.Asking.{Asking, asks, asking_at, begins, arms_at}
+use Rattle.bus_visit.specs.declared.visiting.Slot.{Slot}
+use Rattle.bus_visit.specs.declared.visiting.Slot.TheVariants as slot
+use Rattle.bus_visit.specs.declared.visiting.Sleeper.{Sleeper}
+use Rattle.bus_visit.specs.Calls.{AreCalls}
+use Rattle.bus_visit.specs.Counts.{after_begun}
+use Rattle.bus_visit.specs.Registry.{Held, Idle, Waits, Reported, waits as held_waits, side_held, stopped_held, held_at, with_held, idle, registry}
+use Rattle.bus_visit.specs.Asking.{Asking, asks, asking_at, begins, arms_at}
 use Rattle.bus_peers.specs.inside.Shows.{StandsAt, Shows}
 use Rattle.bus_peers.specs.inside.RegisteredVisits.{FirstDial, opened_course, Converses, Concludes, LeavesAsleep}
-use Rattle.bus_peers.specs.inside.Shown.{IsBetweenCalls, shown}
+use Rattle.bus_visit.specs.Shown.{IsBetweenCalls, shown}
 use Rattle.bus_peers.specs.inside.Slots.{IsNew, Stands, VisitInRecord}
-use Rattle.bus_peers.specs.inside.Conversations.{unix_wire, AsksFirst}
-use Rattle.bus_peers.specs.inside.Visited as visited
-use Rattle.bus_peers.specs.inside.Visited.{is_awake, arms_told, stands_at, Pauses, MakesRegisteredVisit, RegisteredVisit, FirstVisits}
-use Rattle.bus_peers.proofs.PollInRecord.{part-append, goes-append, part-own, part-other}
+use Rattle.bus_visit.specs.Conversations.{unix_wire}
+use Rattle.bus_visit.specs.Dialled.{AsksFirst}
+use Rattle.bus_visit.specs.Visited as visited
+use Rattle.bus_visit.specs.Conversed.{is_awake, stands_at, Pauses}
+use Rattle.bus_visit.specs.Noted.{arms_told}
+use Rattle.bus_visit.specs.Visited.{MakesRegisteredVisit, RegisteredVisit, FirstVisits}
+use Rattle.bus_visit.specs.laws.Records.{part-append, goes-append, part-own, part-other}
 use Rattle.bus_peers.proofs.Sides.{side-waits}
-use Rattle.bus_peers.proofs.OtherWiresStay.{with-here}
-use Rattle.bus_peers.proofs.NotReadyNotes.{begun-still}
+use Rattle.bus_peers.proofs.HeldLists.{with-at}
+use Rattle.bus_visit.specs.laws.Interests.{begun-still}
 use Rattle.bus_peers.proofs.OtherWires.{unvisited}
 use Rattle.bus_peers.specs.inside.Shows.{ShowsAsleep}
 use Rattle.bus_peers.proofs.StayShows.{failed-dial-shows, first-asleep-shows, first-over-shows, later-asleep-shows, later-over-shows}
@@ -441,7 +444,7 @@ module _ (s : Session) (wire key : ℕ) (past : Pieces) (asked : Question) (pass
   a = asked-first s wire past asked built first fresh
 
   idle-here : (h : Held) → held_at (map shown mid.sources) key ≡ Some h → h ≡ idle wire key
-  idle-here h was = same_Some h (idle wire key) (sym was ∙ (ap (λ x. held_at x key) (sym added) ∙ with-here (map shown old.sources) (idle wire key) free))
+  idle-here h was = same_Some h (idle wire key) (sym was ∙ (ap (λ x. held_at x key) (sym added) ∙ with-at (map shown old.sources) (idle wire key) free))
 
   heard : (v own : List Event) → part wire v ≡ own → part wire (pieces.told past ++ opened-visit v) ≡ dial ∷ own
   heard v own mine =

@@ -2,10 +2,8 @@
 #![tactic(auto)]
 
 mod closing;
-mod conversation;
 mod open;
 mod rounds;
-mod visiting;
 
 pub use bus_scene::{Played, QueuedAnswers, Scene};
 pub use bus_script::{Reason, ScriptError, ScriptForm};
