@@ -14,9 +14,9 @@ use Rattle.bus_session.specs.Parts.{is_of}
 use Rattle.bus_record.specs.Places.{key_by, holder_by, waits_by, stop_of, is_dir, reported_by, last_stop_by}
 use Rattle.bus_record.specs.Places.{last_reading_by, notified_by, armed_by}
 use Rattle.bus_record.specs.Visits.{is_call}
-use Rattle.bus_peers.specs.inside.Registry.{Held, noted, held_after}
-use Rattle.bus_peers.specs.inside.Asking.{Asking, asking_at, after_stop}
-use Rattle.bus_peers.specs.inside.Calls.{IsCall}
+use Rattle.bus_visit.specs.Registry.{Held, noted, held_after}
+use Rattle.bus_visit.specs.Asking.{Asking, asking_at, after_stop}
+use Rattle.bus_visit.specs.Calls.{IsCall}
 
 -- the sources after a call that this direction paused, or none did
 abbrev pub noted_by : ℕ → Option Dir → List Held → List Held

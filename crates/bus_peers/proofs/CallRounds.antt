@@ -19,20 +19,20 @@ use Rattle.bus_record.specs.Places.{waits, reports, sleeps}
 use Rattle.bus_record.specs.Settled.{rearming, sleepers, due, is_woken, turned}
 use Rattle.bus_peers.specs.declared.open.OpenError.{OpenError}
 use Rattle.bus_peers.specs.declared.open.OpenError.TheVariants as open_err
-use Rattle.bus_peers.specs.declared.visiting.Slot.{Slot}
-use Rattle.bus_peers.specs.declared.visiting.Slot.TheVariants as slot
-use Rattle.bus_peers.specs.Counts.{waits_in}
+use Rattle.bus_visit.specs.declared.visiting.Slot.{Slot}
+use Rattle.bus_visit.specs.declared.visiting.Slot.TheVariants as slot
+use Rattle.bus_visit.specs.Counts.{waits_in}
 use Rattle.bus_peers.specs.inside.Due.{is_in, is_due, due_at}
 use Rattle.bus_peers.specs.inside.Rounds.{round_events}
-use Rattle.bus_peers.specs.inside.Registry.{Held, held_at, reported_held, after_report_held, after_reports_held, registry, rearming_of}
-use Rattle.bus_peers.specs.inside.Registry as registry_of
+use Rattle.bus_visit.specs.Registry.{Held, held_at, reported_held, after_report_held}
+use Rattle.bus_peers.specs.inside.RoundEvents.{rearming_of}
 use Rattle.bus_peers.specs.inside.RoundEvents.{Round, round_told}
 use Rattle.bus_peers.specs.inside.Shows.{Shows}
-use Rattle.bus_peers.specs.inside.Shown.{shown, Tags, tags, has_wire}
+use Rattle.bus_visit.specs.Shown.{shown, Tags, tags, has_wire}
 use Rattle.bus_peers.specs.inside.Rounds.{Rounded, HaveWires, OnExhausted}
 use Rattle.bus_peers.specs.inside.Slots.{Owned, AllBuilt, AllStand, CallStands, CallStandsAfter, VisitsKeepCall, RoundKeepsCall, RoundsSettleCall, CallSettled, Told, CallHalted, Stuck}
-use Rattle.bus_peers.proofs.ArmingFacts.{arming-waits}
-use Rattle.bus_peers.proofs.PollInRecord.{waits_in-append}
+use Rattle.bus_visit.specs.laws.Armings.{arming-waits}
+use Rattle.bus_visit.specs.laws.Records.{waits_in-append}
 use Rattle.bus_peers.proofs.RoundLemmas.{round-held, round-apart}
 use Rattle.bus_peers.proofs.VisitsInRecord.{part-quiet}
 use Rattle.bus_peers.proofs.Standing.{Still, WaitsOn, stands-move, stand-at, stand-move, whole, sleeps-now, all-rest}
@@ -42,6 +42,7 @@ use Rattle.bus_peers.proofs.RoundRearms.{rearming-same}
 use Rattle.bus_peers.specs.inside.Due.{NoDeadlines}
 use Rattle.bus_peers.proofs.WholeRounds.{rounds-show, woken-are-due, due-wires-are-same, rounds-are-rounds}
 use Rattle.bus_peers.proofs.VisitsInRecord.{built-late}
+use Rattle.bus_peers.specs.inside.RoundEvents as round_events
 
 -- ---- a round
 
@@ -49,10 +50,10 @@ none-rearming_of : (o : Option Held) (r : Report) → waits_in (rearming_of o r)
 none-rearming_of None r = refl
 none-rearming_of (Some h) r = arming-waits (reported_held h r)
 
-none-rearming : (held : List Held) (reports : List Report) → waits_in (registry_of.rearming held reports) ≡ 0
+none-rearming : (held : List Held) (reports : List Report) → waits_in (round_events.rearming held reports) ≡ 0
 none-rearming held [] = refl
 none-rearming held (r ∷ reports) =
-    waits_in-append (rearming_of (held_at held r.key) r) (registry_of.rearming (after_report_held held r) reports)
+    waits_in-append (rearming_of (held_at held r.key) r) (round_events.rearming (after_report_held held r) reports)
     ∙ omega (arith, none-rearming_of (held_at held r.key) r, none-rearming (after_report_held held r) reports)
 
 one-wait : (r : Round) (second : Option ℕ) → r.second ≡ second → waits_in (round_told None r) ≡ 1
@@ -60,7 +61,7 @@ one-wait r None e = rw e refl
 one-wait r (Some moment) e = rw e refl
 
 pub round-waits : (held : List Held) (r : Round) → waits_in (round_events held r) ≡ 1
-round-waits held r = waits_in-append (round_told None r) (registry_of.rearming held (reports_of r.answer)) ∙ omega (arith, one-wait r r.second refl, none-rearming held (reports_of r.answer))
+round-waits held r = waits_in-append (round_told None r) (round_events.rearming held (reports_of r.answer)) ∙ omega (arith, one-wait r r.second refl, none-rearming held (reports_of r.answer))
 
 -- ---- the round as a piece
 

@@ -11,8 +11,8 @@ use Rattle.react_core.specs.declared.reactor.Dir.{Dir}
 use Rattle.bus_session.specs.Parts.{is_of, part}
 use Rattle.bus_record.specs.Places.{key_through, holder_through, last_reading}
 use Rattle.bus_record.specs.Places.{stop_of}
-use Rattle.bus_peers.specs.inside.Registry.{Held, waits, held_at, held_after, registry, stopped_held, arming}
-use Rattle.bus_peers.specs.inside.Calls.{AreCalls}
+use Rattle.bus_visit.specs.Registry.{Held, waits, held_at, held_after, registry, stopped_held, arming}
+use Rattle.bus_visit.specs.Calls.{AreCalls}
 use Rattle.bus_peers.specs.inside.Shows.{KeysRise}
 use Rattle.bus_peers.proofs.CallFacts.{OfCall, of-call, noted_by}
 use Rattle.bus_peers.proofs.HeldLists.{if-else, if-then, noted_one, noted-at, noted-rise}

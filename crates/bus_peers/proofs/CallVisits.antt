@@ -13,18 +13,18 @@ use Rattle.bus_session.specs.Sessions.{is_built}
 use Rattle.bus_record.specs.Pieces as pieces
 use Rattle.bus_record.specs.Pieces.{Pieces, nothing, ◌▸◌, visit, rounds_in, armings_in, is_modify}
 use Rattle.bus_record.specs.Settled.{numbered, start, visited}
-use Rattle.bus_peers.specs.declared.visiting.Slot.{Slot}
-use Rattle.bus_peers.specs.declared.visiting.Slot.TheVariants as slot
-use Rattle.bus_peers.specs.declared.visiting.Sleeper.{Sleeper}
+use Rattle.bus_visit.specs.declared.visiting.Slot.{Slot}
+use Rattle.bus_visit.specs.declared.visiting.Slot.TheVariants as slot
+use Rattle.bus_visit.specs.declared.visiting.Sleeper.{Sleeper}
 use Rattle.bus_peers.specs.inside.Closing.{counting}
 use Rattle.bus_peers.specs.inside.Due.{is_in}
-use Rattle.bus_peers.specs.Headline.{after_begun}
-use Rattle.bus_peers.specs.inside.Registry.{Held}
+use Rattle.bus_visit.specs.Counts.{after_begun}
+use Rattle.bus_visit.specs.Registry.{Held}
 use Rattle.bus_peers.specs.inside.Shows.{Shows}
-use Rattle.bus_peers.specs.inside.Shown.{IsBetweenCalls, shown}
-use Rattle.bus_peers.specs.inside.Visited.{MakesRegisteredVisit, FirstVisits}
+use Rattle.bus_visit.specs.Shown.{IsBetweenCalls, shown}
+use Rattle.bus_visit.specs.Visited.{MakesRegisteredVisit, FirstVisits}
 use Rattle.bus_peers.specs.inside.Slots.{Stands, AllStand, IsNew, CallStands, CallStandsAfter, AllBuilt, VisitsKeepCall, VisitInRecord, Told}
-use Rattle.bus_peers.proofs.PollInRecord.{waits_in-append}
+use Rattle.bus_visit.specs.laws.Records.{waits_in-append}
 use Rattle.bus_peers.proofs.VisitsInRecord.{goes-again, goes-first, part-quiet}
 use Rattle.bus_peers.proofs.OtherWires.{others-still}
 use Rattle.bus_peers.proofs.Standing.{Still, WaitsOn, stands-move, stand-at, stand-move, stand-set, stand-more, get-take}

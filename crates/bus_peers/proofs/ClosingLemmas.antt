@@ -14,18 +14,18 @@ use Rattle.react_core.specs.Core.{Core, ReactorState}
 use Rattle.react_core.specs.Sources.{source_of}
 use Rattle.react_core.specs.Told.{told, told-told}
 use Rattle.bus_session.specs.declared.ended.Ended.{Ended}
-use Rattle.bus_peers.specs.declared.visiting.Slot.{Slot}
-use Rattle.bus_peers.specs.declared.visiting.Slot.TheVariants as slot
+use Rattle.bus_visit.specs.declared.visiting.Slot.{Slot}
+use Rattle.bus_visit.specs.declared.visiting.Slot.TheVariants as slot
 use Rattle.bus_peers.specs.declared.open.OpenError.{OpenError}
 use Rattle.bus_peers.specs.declared.open.OpenError.TheVariants as open_err
-use Rattle.bus_peers.specs.inside.Registry.{Held}
+use Rattle.bus_visit.specs.Registry.{Held}
 use Rattle.bus_peers.specs.inside.Closing.{removals_of, closing}
-use Rattle.bus_peers.specs.inside.Shown.{shown, Tags, tags, tag_at, without_tag, has_wire, Single, are_below}
-use Rattle.bus_peers.specs.inside.Visited.{VisitCounted}
+use Rattle.bus_visit.specs.Shown.{shown, Tags, tags, tag_at, without_tag, has_wire, Single, are_below}
+use Rattle.bus_peers.specs.inside.SlotFaults.{VisitsCounted}
 use Rattle.bus_peers.specs.inside.Slots.{Owns, AllOwn, Owned}
 use Rattle.bus_peers.specs.inside.Rounds.{IsHeld, without_slot, removal_of, removal_told, is_kept, EndsIn, AllEnd}
 use Rattle.bus_peers.specs.Counts.{is_delete}
-use Rattle.bus_peers.proofs.TagLemmas.{tags-without, tag-has_source, tag-source, tag-has_wire, has_wire-without, no_wire-without, tag_at-without, single-without, below-without, below-none, tags-none}
+use Rattle.bus_visit.specs.laws.Tags.{tags-without, tag-has_source, tag-source, tag-has_wire, has_wire-without, no_wire-without, tag_at-without, single-without, below-without, below-none, tags-none}
 use Rattle.bus_peers.proofs.SlotLemmas.{owns-at, below-from, no_wire-above}
 
 -- ---- what is told
@@ -180,21 +180,21 @@ removals-more r0 r1 r2 (a, first, all) (b, second, all') =
     (a ++ b, second ∙ (ap (λ r. told r b) first ∙ told-told r0 a b), list_all-append is_delete a b ∙ and_from (list_all is_delete a) (list_all is_delete b) all all')
 
 -- counts don't fall
-no_less : {T : Type 0} (answer : Result T OpenError) (before now : ℕ) → VisitCounted answer before now → before ≤ now
+no_less : {T : Type 0} (answer : Result T OpenError) (before now : ℕ) → VisitsCounted answer before now → before ≤ now
 no_less (Ok v) before now counted = omega (arith, counted)
 no_less (Err open_err.Poller) before now counted = omega (arith, counted)
 no_less (Err open_err.OutOfMemory) before now counted = counted
 no_less (Err (open_err.Exhausted c value)) before now counted = absurd counted
 
-counted_both : {T : Type 0} (answer removed' : Result T OpenError) (n0 n1 n2 : ℕ) → VisitCounted answer n0 n1 → VisitCounted removed' n1 n2 → VisitCounted (result_and answer removed') n0 n2
-counted_both {T} (Ok v) removed' n0 n1 n2 first second = let V : ℕ → Type 0 = λ n. VisitCounted removed' n n2 in subst V first second
+counted_both : {T : Type 0} (answer removed' : Result T OpenError) (n0 n1 n2 : ℕ) → VisitsCounted answer n0 n1 → VisitsCounted removed' n1 n2 → VisitsCounted (result_and answer removed') n0 n2
+counted_both {T} (Ok v) removed' n0 n1 n2 first second = let V : ℕ → Type 0 = λ n. VisitsCounted removed' n n2 in subst V first second
 counted_both (Err open_err.Poller) removed' n0 n1 n2 first second = let up : n1 ≤ n2 = no_less removed' n1 n2 second in omega (arith, first, up)
 counted_both (Err open_err.OutOfMemory) removed' n0 n1 n2 first second = let up : n1 ≤ n2 = no_less removed' n1 n2 second in omega (arith, first, up)
 counted_both (Err (open_err.Exhausted c value)) removed' n0 n1 n2 first second = first
 
-pub counted-both : {T : Type 0} (answer removed' both : Result T OpenError) (n0 n1 n2 : ℕ) → both ≡ result_and answer removed' → VisitCounted answer n0 n1 → VisitCounted removed' n1 n2 → VisitCounted both n0 n2
+pub counted-both : {T : Type 0} (answer removed' both : Result T OpenError) (n0 n1 n2 : ℕ) → both ≡ result_and answer removed' → VisitsCounted answer n0 n1 → VisitsCounted removed' n1 n2 → VisitsCounted both n0 n2
 counted-both {T} answer removed' both n0 n1 n2 is first second =
-    let P : Result T OpenError → Type 0 = λ r. VisitCounted r n0 n2 in
+    let P : Result T OpenError → Type 0 = λ r. VisitsCounted r n0 n2 in
     subst P (sym is) (counted_both answer removed' n0 n1 n2 first second)
 
 -- ---- the loop over the slots

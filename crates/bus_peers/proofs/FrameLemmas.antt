@@ -1,5 +1,5 @@
--- What the calls of a visit keep of the outside, and which counts they raise.
-use Rattle.std.proofs.Common.{◌≡◌, ◌≤◌, inl, inr, ◌+◌, ℕ, List, [], ◌∷◌, ◌++◌, length, Option, Some, None, Result, Ok, Err, slice_set, Bool, true, false, if◌then◌else◌, zero, suc, refl, sym, ap, ◌∙◌, subst, arith}
+-- What visits and rounds keep of the outside, and which counts they raise.
+use Rattle.std.proofs.Common.{◌≡◌, ◌+◌, ℕ, List, [], ◌∷◌, ◌++◌, length, Option, Some, None, Result, Ok, Err, slice_set, zero, suc, refl, sym, ap, ◌∙◌, subst, arith}
 use Rattle.std.specs.Prelude.{IfOk, OnErr}
 use Rattle.react_core.specs.Core.{Core}
 use Rattle.react_core.specs.Readiness.{Outcome, Fires, Stays, Begins, after_source_poll, poll_outcome}
@@ -8,69 +8,24 @@ use Rattle.react_core.specs.Places.{Source}
 use Rattle.react_core.specs.declared.reactor.Dir.{Dir}
 use Rattle.react_core.specs.Step.{Kind, Answer, Step, PolledPoll, Insert, Remove, Begin, Return, Finish, Polled, Done}
 use Rattle.react_core.specs.Steps.{Steps, CoreSteps}
-use Rattle.react_core.specs.Outer.{Outer, Keeps, NoneFalls, keeps-then, wire-in-visit, poller-in-visit, visit-in-all, round-in-all}
+use Rattle.react_core.specs.Outer.{Outer, Keeps, visit-in-all, round-in-all}
 use Rattle.react_core.specs.Outer as part
-use Rattle.react_core.specs.Told.{Rose}
-use Rattle.bus_opening.specs.Polling.{IoCounted}
-use Rattle.bus_opening.specs.declared.verdict.Step.TheVariants as step
-use Rattle.bus_opening.specs.declared.verdict.Step as steps
-use Rattle.bus_opening.specs.declared.verdict.Verdict.{Verdict}
-use Rattle.bus_opening.specs.declared.verdict.Verdict.TheVariants as verdict
-use Rattle.bus_session.specs.declared.ended.Ending.{Ending}
-use Rattle.bus_session.specs.declared.ended.Ending.TheVariants as ending
 use Rattle.bus_session.specs.declared.ended.Ended.{Ended}
-use Rattle.bus_peers.specs.declared.visiting.Slot.{Slot}
-use Rattle.bus_peers.specs.declared.visiting.Slot.TheVariants as slot
-use Rattle.bus_peers.specs.declared.visiting.PollEnd.{PollEnd}
-use Rattle.bus_peers.specs.declared.visiting.PollEnd.TheVariants as poll_end
+use Rattle.bus_visit.specs.declared.visiting.Slot.{Slot}
+use Rattle.bus_visit.specs.declared.visiting.Slot.TheVariants as slot
 use Rattle.bus_opening.specs.Openings.{Opening}
 use Rattle.react_core.specs.declared.outside.Event.{Event}
 use Rattle.bus_session.specs.declared.session.Session.{Session}
-use Rattle.bus_peers.specs.declared.dialling.Dialled.{Dialled}
-use Rattle.bus_peers.specs.declared.dialling.Dialled.TheVariants as dialleds
-use Rattle.bus_peers.specs.declared.dialling.Reached.{Reached}
-use Rattle.bus_peers.specs.inside.Dials.{DialCounted}
-use Rattle.bus_peers.specs.inside.Shown.{Tags}
-use Rattle.bus_peers.specs.inside.Visited.{ending_of, KeepsCall, FirstVisits, undialled, dialled}
-use Rattle.bus_peers.specs.inside.Visited as visited
+use Rattle.bus_visit.specs.Shown.{Tags}
+use Rattle.bus_visit.specs.Visited.{KeepsCall, FirstVisits, undialled, dialled}
+use Rattle.bus_visit.specs.Visited as visited
 use Rattle.bus_peers.specs.inside.Rounds.{EndsIn, AllEnd}
-use Rattle.bus_peers.specs.Faults.{EndingCounted, EndedsCounted}
-use Rattle.bus_peers.specs.inside.SlotFaults.{NoneFell, PollEndCounted, SlotCounted, AllCounted, CountsOn}
-
--- ---- a count that rose, over a longer stretch
-
-pub rose-within : (a b c d : ℕ) → a ≤ b → c ≤ d → Rose b c → Rose a d
-rose-within a b c d low high rose = omega (arith, low, high, rose)
-
-pub rose-rises : (a b : ℕ) → Rose a b → a ≤ b
-rose-rises a b rose = omega (arith, rose)
-
--- a count that stood
-pub same-rises : (a b : ℕ) → b ≡ a → a ≤ b
-same-rises a b same = omega (arith, same)
-
-pub io-rises : (answer : steps.Step) (a b : ℕ) → IoCounted answer a b → a ≤ b
-io-rises (step.Done (verdict.Authenticated settled)) a b counted = same-rises a b counted
-io-rises (step.Done verdict.Handshake) a b counted = same-rises a b counted
-io-rises (step.Done verdict.Io) a b counted = rose-rises a b counted
-io-rises (step.Done verdict.LineTooLong) a b counted = same-rises a b counted
-io-rises (step.Done verdict.TooManyCommands) a b counted = same-rises a b counted
-io-rises step.WantRead a b counted = same-rises a b counted
-io-rises step.WantWrite a b counted = same-rises a b counted
-io-rises step.OutOfMemory a b counted = same-rises a b counted
+use Rattle.bus_visit.specs.Faults.{EndingCounted, SlotCounted}
+use Rattle.bus_peers.specs.Faults.{EndedsCounted}
+use Rattle.bus_peers.specs.inside.SlotFaults.{NoneFell, AllCounted, CountsOn}
+use Rattle.bus_visit.specs.laws.Faults.{Rises, rises-same, slot-within}
 
 module _ {Origin : Type 0} where
-  -- neither count of this wire fell
-  pub record Rises (wire : ℕ) (a b : Outer Origin) : Type 0 where
-    pub wires : a.wire_faults wire ≤ b.wire_faults wire
-    pub dials : a.dial_faults wire ≤ b.dial_faults wire
-
-  pub rises-same : (wire : ℕ) (a : Outer Origin) → Rises wire a a
-  rises-same wire a = record { wires = omega arith; dials = omega arith }
-
-  pub rises-visit : (wire : ℕ) (a b : Outer Origin) → Keeps (part.Visit wire) a b → Rises wire a b
-  rises-visit wire a b k = record { wires = k.wires.1; dials = k.dials.1 }
-
   rises-all : (wire : ℕ) (a b : Outer Origin) → NoneFell a b → Rises wire a b
   rises-all wire a b k = record { wires = k.wires wire; dials = k.dials wire }
 
@@ -88,80 +43,6 @@ module _ {Origin : Type 0} where
     wires = λ w. omega (arith, k.wires w, l.wires w);
     dials = λ w. omega (arith, k.dials w, l.dials w);
   }
-
-  pub ending-within : (wire : ℕ) (e : Ending) (a b c d : Outer Origin) → Rises wire a b → Rises wire c d → EndingCounted wire e b c → EndingCounted wire e a d
-  ending-within wire (ending.Open guid cap_unix_fd) a b c d low high counted = tt
-  ending-within wire (ending.Address reason) a b c d low high counted = tt
-  ending-within wire ending.Unsupported a b c d low high counted = tt
-  ending-within wire ending.Connection a b c d low high counted = rose-within _ _ _ _ low.dials high.dials counted
-  ending-within wire ending.Io a b c d low high (inl counted) = inl (rose-within _ _ _ _ low.dials high.dials counted)
-  ending-within wire ending.Io a b c d low high (inr counted) = inr (rose-within _ _ _ _ low.wires high.wires counted)
-  ending-within wire ending.Handshake a b c d low high counted = tt
-  ending-within wire ending.LineTooLong a b c d low high counted = tt
-  ending-within wire ending.TooManyCommands a b c d low high counted = tt
-  ending-within wire ending.TimedOut a b c d low high counted = tt
-  ending-within wire ending.Waiting a b c d low high counted = tt
-
-  pub turn-within : (wire : ℕ) (t : PollEnd) (a b c d : Outer Origin) → Rises wire a b → Rises wire c d → PollEndCounted wire t b c → PollEndCounted wire t a d
-  turn-within wire (poll_end.Over e) a b c d low high counted = ending-within wire e a b c d low high counted
-  turn-within wire poll_end.Again a b c d low high counted = tt
-  turn-within wire poll_end.Asleep a b c d low high counted = tt
-
-  pub slot-within : (wire : ℕ) (s : Slot) (a b c d : Outer Origin) → Rises wire a b → Rises wire c d → SlotCounted wire s b c → SlotCounted wire s a d
-  slot-within wire (slot.Ended e) a b c d low high counted = ending-within wire e.ending a b c d low high counted
-  slot-within wire (slot.Asleep s) a b c d low high counted = tt
-  slot-within wire slot.Refused a b c d low high counted = tt
-
-  -- ---- a turn
-
-  -- a poll of the conversation
-  pub keeps-polled : (wire : ℕ) (answer : steps.Step) (a b : Outer Origin) → Keeps (part.Wire wire) a b → IoCounted answer (a.wire_faults wire) (b.wire_faults wire) → Keeps (part.Visit wire) a b
-  keeps-polled wire answer a b k counted = wire-in-visit wire a b k (io-rises answer _ _ counted)
-
-  -- and then a call of the poller
-  pub keeps-noted : (wire : ℕ) (answer : steps.Step) (a b c : Outer Origin) → Keeps (part.Wire wire) a b → IoCounted answer (a.wire_faults wire) (b.wire_faults wire) → Keeps part.Poller b c → Keeps (part.Visit wire) a c
-  keeps-noted wire answer a b c k counted l = keeps-then (part.Visit wire) a b c (keeps-polled wire answer a b k counted) (poller-in-visit wire b c l)
-
-  verdict-counted : (wire : ℕ) (v : Verdict) (a b : Outer Origin) → IoCounted (step.Done v) (a.wire_faults wire) (b.wire_faults wire) → EndingCounted wire (ending_of v) a b
-  verdict-counted wire (verdict.Authenticated settled) a b counted = tt
-  verdict-counted wire verdict.Handshake a b counted = tt
-  verdict-counted wire verdict.Io a b counted = inr counted
-  verdict-counted wire verdict.LineTooLong a b counted = tt
-  verdict-counted wire verdict.TooManyCommands a b counted = tt
-
-  pub over-counted : (wire : ℕ) (v : Verdict) (e : Ending) (a b : Outer Origin) → e ≡ ending_of v → IoCounted (step.Done v) (a.wire_faults wire) (b.wire_faults wire) → EndingCounted wire e a b
-  over-counted wire v e a b is counted = let C : Ending → Type 0 = λ x. EndingCounted wire x a b in subst C (sym is) (verdict-counted wire v a b counted)
-
-  -- a turn that stops has no ending
-  pub stop-counted : (wire : ℕ) (again : Bool) (t : PollEnd) (a b : Outer Origin) → t ≡ (if again then poll_end.Again else poll_end.Asleep) → PollEndCounted wire t a b
-  stop-counted wire true t a b is = let C : PollEnd → Type 0 = λ x. PollEndCounted wire x a b in subst C (sym is) tt
-  stop-counted wire false t a b is = let C : PollEnd → Type 0 = λ x. PollEndCounted wire x a b in subst C (sym is) tt
-
-  -- one visit's call after others of it
-  pub keeps-visit : (wire : ℕ) (a b c : Outer Origin) → Keeps (part.Visit wire) a b → Keeps part.Poller b c → Keeps (part.Visit wire) a c
-  keeps-visit wire a b c k l = keeps-then (part.Visit wire) a b c k (poller-in-visit wire b c l)
-
-  -- a poller's call before the rest of a visit
-  pub keeps-registered : (wire : ℕ) (a b c : Outer Origin) → Keeps part.Poller a b → Keeps (part.Visit wire) b c → Keeps (part.Visit wire) a c
-  keeps-registered wire a b c k l = keeps-then (part.Visit wire) a b c (poller-in-visit wire a b k) l
-
-  -- the ending of a visit, whose source is taken out then
-  pub ended-counted : (wire : ℕ) (x : Ending) (e : Ended) (a b c : Outer Origin) → e.ending ≡ x → EndingCounted wire x a b → Keeps part.Poller b c → EndingCounted wire e.ending a c
-  ended-counted wire x e a b c is counted k =
-      let C : Ending → Type 0 = λ y. EndingCounted wire y a c in
-      subst C (sym is) (ending-within wire x a a b c (rises-same wire a) (rises-visit wire b c (poller-in-visit wire b c k)) counted)
-
-  -- the dialling opened nothing
-  pub unconnected-counted : (wire : ℕ) (reached : Reached) (failure : Ending) (e : Ended) (a b : Outer Origin) → reached.dialled ≡ dialleds.Failed failure → e.ending ≡ failure →
-      DialCounted wire reached.dialled a b → EndingCounted wire e.ending a b
-  unconnected-counted wire reached failure e a b failed is counted =
-      let C : Ending → Type 0 = λ y. EndingCounted wire y a b in
-      let D : Dialled → Type 0 = λ d. DialCounted wire d a b in
-      subst C (sym is) (subst D failed counted).1
-
-  -- a visit's slot, from before the calls that led to it
-  pub slot-after : (wire : ℕ) (s : Slot) (a b c : Outer Origin) → Keeps (part.Visit wire) a b → SlotCounted wire s b c → SlotCounted wire s a c
-  slot-after wire s a b c k counted = slot-within wire s a b c c (rises-visit wire a b k) (rises-same wire c) counted
 
   -- ---- the slots
 

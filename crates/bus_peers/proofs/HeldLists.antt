@@ -8,8 +8,8 @@ use Rattle.std.specs.Option.{option_map}
 use Rattle.react_core.specs.declared.outside.Event.{Event}
 use Rattle.react_core.specs.declared.outside.Report.{Report}
 use Rattle.react_core.specs.declared.reactor.Dir.{Dir}
-use Rattle.bus_peers.specs.inside.Registry.{Held, held_at, with_held, without_held, stopped_held, noted, held_after, registry}
-use Rattle.bus_peers.specs.inside.Registry.{reported_held, after_report_held}
+use Rattle.bus_visit.specs.Registry.{Held, held_at, with_held, without_held, stopped_held, noted, held_after, registry}
+use Rattle.bus_visit.specs.Registry.{reported_held, after_report_held}
 use Rattle.bus_peers.specs.inside.Shows.{KeysRise}
 use Rattle.bus_peers.proofs.Sides.{stopped-key}
 

@@ -1,16 +1,6 @@
-pub mod SourcesAreRegistry
-pub mod PollChangesSources
-pub mod OtherWiresStay
-pub mod ArmingFacts
-pub mod TagLemmas
-pub mod PollInRecord
-pub mod NotReadyNotes
 pub mod Courses
 pub mod RoundLemmas
-pub mod PollInVisit
 pub mod FrameLemmas
-pub mod StayLemmas
-pub mod FirstVisit
 pub mod CallFacts
 pub mod Progresses
 pub mod StaySteps
@@ -18,7 +8,6 @@ pub mod Sides
 pub mod StayPlaces
 pub mod StayVisits
 pub mod OtherWires
-pub mod DialFolds
 pub mod WholeVisits
 pub mod HeldLists
 pub mod CallSources

@@ -9,21 +9,22 @@ use Rattle.react_core.specs.Core.{Core, ReactorState}
 use Rattle.react_core.specs.Told.{told, told-told, told-nothing, Rose}
 use Rattle.bus_session.specs.declared.ended.Ended.{Ended}
 use Rattle.bus_session.specs.declared.session.Session.{Session}
-use Rattle.bus_peers.specs.declared.visiting.Slot.{Slot}
-use Rattle.bus_peers.specs.declared.visiting.Slot.TheVariants as slot
+use Rattle.bus_visit.specs.declared.visiting.Slot.{Slot}
+use Rattle.bus_visit.specs.declared.visiting.Slot.TheVariants as slot
 use Rattle.bus_peers.specs.declared.open.OpenError.{OpenError}
 use Rattle.bus_peers.specs.declared.open.OpenError.TheVariants as open_err
 use Rattle.bus_record.specs.Pieces as pieces
 use Rattle.bus_record.specs.Pieces.{Pieces}
 use Rattle.bus_record.specs.Headline.{IsEnding, Each}
-use Rattle.bus_peers.specs.Counts.{is_wait, is_delete, waits_in}
+use Rattle.bus_visit.specs.Counts.{is_wait, waits_in}
+use Rattle.bus_peers.specs.Counts.{is_delete}
 use Rattle.bus_peers.specs.inside.Closing.{closing}
-use Rattle.bus_peers.specs.inside.Shown.{shown, tags}
+use Rattle.bus_visit.specs.Shown.{shown, tags}
 use Rattle.bus_peers.specs.Headline.{Opened, RefusedWith, OpenCounted, Completes}
 use Rattle.bus_peers.specs.inside.Rounds.{is_kept, EndsIn, AllEnd}
-use Rattle.bus_peers.specs.inside.Visited.{VisitCounted}
+use Rattle.bus_peers.specs.inside.SlotFaults.{VisitsCounted}
 use Rattle.bus_peers.specs.inside.Slots.{Owned, AllBuilt, Stands, AllStand, CallStands, CallSettled, RefusedAt, Halts}
-use Rattle.bus_peers.proofs.PollInRecord.{waits_in-append}
+use Rattle.bus_visit.specs.laws.Records.{waits_in-append}
 use Rattle.bus_peers.proofs.Standing.{whole}
 use Rattle.bus_peers.proofs.Sleepers.{closing-so}
 
@@ -137,7 +138,7 @@ answers-refused items result (open_err.Exhausted c value) sessions rounds r0 r1 
 
 -- a removal was refused
 pub answers-unremoved : {T : Type 0} (items : T → List Ended) (result : Result T OpenError) (e : OpenError) (sessions : List Session) (rounds : ℕ) (r0 r1 r2 : Option (List Event)) (old : Core) (mid new : ReactorState) (slots : List Slot) (n0 n1 : ℕ) →
-    IsErrAnd result (λ x. x ≡ e) → (past : Pieces) × CallSettled sessions rounds old r0 r1 mid.core slots past → VisitCounted {T = Unit {0}} (Err e) n0 n1 → new ≡ emptied mid →
+    IsErrAnd result (λ x. x ≡ e) → (past : Pieces) × CallSettled sessions rounds old r0 r1 mid.core slots past → VisitsCounted {T = Unit {0}} (Err e) n0 n1 → new ≡ emptied mid →
     (gone : List Event) × (r2 ≡ told r1 gone) × (list_all is_delete gone ≡ true) → Answers items result sessions rounds r0 r2 old new.core
 answers-unremoved items result open_err.OutOfMemory sessions rounds r0 r1 r2 old mid new slots n0 n1 is (past, x) counted same (gone, gained, all) =
     answers-err items result open_err.OutOfMemory sessions rounds r0 r2 old new.core (pieces.told past ++ gone) is (after-gone r0 r1 r2 (pieces.told past) gone x.going.gained gained) tt

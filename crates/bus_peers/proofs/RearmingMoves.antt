@@ -14,9 +14,9 @@ use Rattle.bus_record.specs.Places.{key_by, key_through, holder, holder_by, hold
 use Rattle.bus_record.specs.Places.{waits}
 use Rattle.bus_record.specs.Places.{keeps_armed, last_reading_by, last_reading}
 use Rattle.bus_record.specs.Settled.{arming_of, rearming_of, rearming}
-use Rattle.bus_peers.specs.inside.Registry.{Side, Idle, Waits, Reported, Held, told_of, held_at, side_held, reported_held}
-use Rattle.bus_peers.specs.inside.Registry.{after_report_held, after_reports_held}
-use Rattle.bus_peers.specs.inside.Registry as registry
+use Rattle.bus_visit.specs.Registry.{Side, Idle, Waits, Reported, Held, told_of, held_at, side_held, reported_held}
+use Rattle.bus_visit.specs.Registry.{after_report_held, after_reports_held}
+use Rattle.bus_visit.specs.Registry as registry
 use Rattle.bus_peers.proofs.CallSources.{MovesNothing, nothing-moves}
 use Rattle.bus_peers.proofs.HeldLists.{registry-append}
 use Rattle.bus_peers.proofs.RoundRearms.{flag}

@@ -5,8 +5,8 @@ use Rattle.std.specs.Option.{option_map}
 use Rattle.react_core.specs.declared.outside.Report.{Report}
 use Rattle.react_core.specs.declared.reactor.Dir.{Dir}
 use Rattle.bus_record.specs.Places.{named}
-use Rattle.bus_peers.specs.inside.Registry.{Side, Idle, Waits, Reported, Held, told_of, held_at, side_held, reported_held}
-use Rattle.bus_peers.specs.inside.Registry.{after_report_held, after_reports_held}
+use Rattle.bus_visit.specs.Registry.{Side, Idle, Waits, Reported, Held, told_of, held_at, side_held, reported_held}
+use Rattle.bus_visit.specs.Registry.{after_report_held, after_reports_held}
 use Rattle.bus_peers.specs.inside.Shows.{IsSide, KeysRise}
 use Rattle.bus_peers.proofs.HeldLists.{reported_one, report-at, report-rise}
 use Rattle.bus_peers.proofs.RoundRearms.{flag, reported-side, eqb-flip, one-key, one-wire}

@@ -7,7 +7,7 @@ use Rattle.std.proofs.lemmas.Option.{none-some, same_Some}
 use Rattle.std.specs.Prelude.{filter, slice_get}
 use Rattle.bus_session.specs.declared.session.Session.{Session}
 use Rattle.bus_record.specs.Settled.{Numbered, numbered}
-use Rattle.bus_peers.specs.inside.Registry.{RisesFrom}
+use Rattle.bus_peers.specs.inside.Due.{RisesFrom}
 use Rattle.bus_peers.specs.inside.Due.{is_in}
 
 -- ---- rising lists

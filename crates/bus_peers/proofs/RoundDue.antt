@@ -13,8 +13,8 @@ use Rattle.bus_record.specs.Pieces.{Round, Pieces}
 use Rattle.bus_record.specs.Places.{key_of, named, named_of, waits}
 use Rattle.bus_record.specs.Visits.{here}
 use Rattle.bus_record.specs.Settled.{is_woken}
-use Rattle.bus_peers.specs.inside.Registry.{Held, held_at, side_held, RisesFrom}
-use Rattle.bus_peers.specs.inside.Registry as registry
+use Rattle.bus_visit.specs.Registry.{Held, held_at, side_held}
+use Rattle.bus_visit.specs.Registry as registry
 use Rattle.bus_peers.specs.inside.Due.{is_due, due_at}
 use Rattle.bus_peers.specs.inside.Shows.{KeysRise, Shows}
 use Rattle.bus_peers.proofs.HeldLists.{if-else, if-then, rise-none}

@@ -33,20 +33,22 @@ use Rattle.bus_peers.specs.declared.rounds.Woken.{Woken}
 use Rattle.bus_peers.specs.declared.open.OpenError.{OpenError}
 use Rattle.bus_peers.specs.Headline.{open_error}
 use Rattle.bus_peers.specs.inside.RoundEvents.{Round, round_told, reading_told}
-use Rattle.bus_peers.specs.inside.Registry.{Held, Side, Idle, Waits, Reported, held_at, registry, arming, waits, told_of, reported_held, after_wait, after_report_held, after_reports_held, rearming, rearming_of, Apart, Distinct, RisesFrom}
+use Rattle.bus_visit.specs.Registry.{Held, Side, Idle, Waits, Reported, held_at, registry, arming, waits, told_of, reported_held, after_wait, after_report_held, after_reports_held, Apart, Distinct}
+use Rattle.bus_peers.specs.inside.RoundEvents.{rearming, rearming_of}
+use Rattle.bus_peers.specs.inside.Due.{RisesFrom}
 use Rattle.bus_session.specs.Parts.{part}
 use Rattle.bus_peers.specs.inside.Rounds.{WokenBy, Rounded}
 use Rattle.bus_peers.specs.inside.Due.{is_in, is_due, due_at}
 use Rattle.bus_peers.specs.inside.Rounds.{round_events}
-use Rattle.bus_peers.specs.Counts.{waits_in}
+use Rattle.bus_visit.specs.Counts.{waits_in}
 use Rattle.bus_peers.specs.inside.Slots.{Told, Refuses, RefusedAt}
-use Rattle.bus_peers.specs.inside.Shown.{shown, side_of, place_side, Sane, SanePlace, SaneTask, SaneSource, AllSane, IsBetweenCalls, tags}
+use Rattle.bus_visit.specs.Shown.{shown, side_of, place_side, Sane, SanePlace, SaneTask, SaneSource, AllSane, IsBetweenCalls, tags}
 use Rattle.bus_peers.proofs.Courses.{Rounds, course-core}
-use Rattle.bus_peers.proofs.SourcesAreRegistry.{shown_at, held_at-shown, reported-shown, arming-shown, lone-marked, after_report-shown, after_reports-shown}
-use Rattle.bus_peers.proofs.NotReadyNotes.{sane-at, sane-with}
-use Rattle.bus_peers.proofs.TagLemmas.{tags-after_reports}
-use Rattle.bus_peers.proofs.ArmingFacts.{arming-quiet, arming-apart}
-use Rattle.bus_peers.proofs.PollInRecord.{registry-append, part-append, waits_in-append}
+use Rattle.bus_visit.specs.laws.Sources.{shown_at, held_at-shown, reported-shown, arming-shown, lone-marked, after_report-shown, after_reports-shown}
+use Rattle.bus_visit.specs.laws.Sanity.{sane-at, sane-with}
+use Rattle.bus_visit.specs.laws.Tags.{tags-after_reports}
+use Rattle.bus_visit.specs.laws.Armings.{arming-quiet, arming-apart}
+use Rattle.bus_visit.specs.laws.Records.{registry-append, part-append, waits_in-append}
 
 -- ---- each once and in order
 

@@ -14,12 +14,13 @@ use Rattle.bus_record.specs.Places.{holder, names, named, waits}
 use Rattle.bus_record.specs.Visits.{here}
 use Rattle.bus_record.specs.Settled.{arming_of}
 use Rattle.bus_record.specs.Settled as settled
-use Rattle.bus_peers.specs.inside.Registry.{Side, Idle, Waits, Reported, Held, told_of, held_at, side_held, reported_held}
-use Rattle.bus_peers.specs.inside.Registry.{after_report_held, arming}
-use Rattle.bus_peers.specs.inside.Registry as registry
+use Rattle.bus_visit.specs.Registry.{Side, Idle, Waits, Reported, Held, told_of, held_at, side_held, reported_held}
+use Rattle.bus_visit.specs.Registry.{after_report_held, arming}
+use Rattle.bus_visit.specs.Registry as registry
 use Rattle.bus_peers.specs.inside.Shows.{Shows}
 use Rattle.bus_peers.proofs.HeldLists.{if-then, reported_one, report-at}
 use Rattle.bus_peers.proofs.Sides.{side-at, side-waits, and_true}
+use Rattle.bus_peers.specs.inside.RoundEvents as round_events
 
 -- ---- one report
 
@@ -163,7 +164,7 @@ arming-waits h wire key read write ew ek er ed =
 -- the re-arming after one report
 rearming_of-same : (past : Pieces) (seen : List Report) (sources : List Held) (r : Report) (o : Option Held) →
     held_at sources r.key ≡ o → Seen past seen sources →
-    settled.rearming_of past (r ∷ seen) r.key (holder r.key past) ≡ registry.rearming_of o r
+    settled.rearming_of past (r ∷ seen) r.key (holder r.key past) ≡ round_events.rearming_of o r
 rearming_of-same past seen sources r None at s =
     ap (settled.rearming_of past (r ∷ seen) r.key) (s.free r.key at)
 rearming_of-same past seen sources r (Some h) at s =
@@ -178,15 +179,15 @@ rearming_of-same past seen sources r (Some h) at s =
     (waits Write h.wire past && not (named Write r.key (r ∷ seen))) refl was.key_so (now.waits Read) (now.waits Write))
 
 rearming-seen : (past : Pieces) (seen : List Report) (sources : List Held) (reports : List Report) →
-    Seen past seen sources → settled.rearming past seen reports ≡ registry.rearming sources reports
+    Seen past seen sources → settled.rearming past seen reports ≡ round_events.rearming sources reports
 rearming-seen past seen sources [] s = refl
 rearming-seen past seen sources (r ∷ reports) s =
     ap (λ events. events ++ settled.rearming past (r ∷ seen) reports)
     (rearming_of-same past seen sources r (held_at sources r.key) refl s)
-    ∙ ap (λ events. registry.rearming_of (held_at sources r.key) r ++ events)
+    ∙ ap (λ events. round_events.rearming_of (held_at sources r.key) r ++ events)
     (rearming-seen past (r ∷ seen) (after_report_held sources r) reports (seen-next past seen sources r s))
 
 -- the re-arming of the pieces is that of the sources
 pub rearming-same : (past : Pieces) (sources : List Held) (reports : List Report) → Shows past sources →
-    settled.rearming past [] reports ≡ registry.rearming sources reports
+    settled.rearming past [] reports ≡ round_events.rearming sources reports
 rearming-same past sources reports shows = rearming-seen past [] sources reports (seen-none past sources shows)

@@ -12,7 +12,7 @@ use Rattle.bus_record.specs.Pieces.{Round, round, Pieces, ◌▸◌}
 use Rattle.bus_record.specs.Places.{key_of, holder, named, named_of, waits, reported, keeps_armed, stays_armed}
 use Rattle.bus_record.specs.Visits.{here}
 use Rattle.bus_record.specs.Settled.{rearming}
-use Rattle.bus_peers.specs.inside.Registry.{Held, held_at, side_held, after_reports_held}
+use Rattle.bus_visit.specs.Registry.{Held, held_at, side_held, after_reports_held}
 use Rattle.bus_peers.specs.inside.Shows.{IsSide, StandsAt, ShowsSource, Shows}
 use Rattle.bus_peers.proofs.CallSources.{MovesNothing}
 use Rattle.bus_peers.proofs.Progresses.{map-some}

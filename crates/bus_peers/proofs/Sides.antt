@@ -6,7 +6,7 @@ use Rattle.react_core.specs.declared.reactor.Dir.{Dir}
 use Rattle.react_core.specs.declared.reactor.Dir.TheVariants.{Read, Write}
 use Rattle.bus_record.specs.Places.{waits_by, reported_by, stop_of, is_dir}
 use Rattle.bus_record.specs.Visits.{Here, here_by}
-use Rattle.bus_peers.specs.inside.Registry.{Side, Idle, Waits, Reported, Held, waits, stopped, side_held, stopped_held}
+use Rattle.bus_visit.specs.Registry.{Side, Idle, Waits, Reported, Held, waits, stopped, side_held, stopped_held}
 use Rattle.bus_peers.specs.inside.Shows.{IsSide, StandsAt}
 use Rattle.bus_peers.proofs.CallFacts.{OfCall}
 

@@ -14,12 +14,12 @@ use Rattle.bus_session.specs.Sessions.{is_built}
 use Rattle.bus_record.specs.Pieces.{Pieces}
 use Rattle.bus_record.specs.Places.{key_of, waits, paused, stays_armed, is_early, deadline_at, sleeps, sleeps_in}
 use Rattle.bus_record.specs.Settled.{Numbered, numbered, removal}
-use Rattle.bus_peers.specs.declared.visiting.Slot.{Slot}
-use Rattle.bus_peers.specs.declared.visiting.Slot.TheVariants as slot
+use Rattle.bus_visit.specs.declared.visiting.Slot.{Slot}
+use Rattle.bus_visit.specs.declared.visiting.Slot.TheVariants as slot
 use Rattle.bus_peers.specs.inside.Closing.{closing}
-use Rattle.bus_peers.specs.inside.Registry.{Held}
+use Rattle.bus_visit.specs.Registry.{Held}
 use Rattle.bus_peers.specs.inside.Shows.{Shows}
-use Rattle.bus_peers.specs.inside.Shown.{shown, tags, Single}
+use Rattle.bus_visit.specs.Shown.{shown, tags, Single}
 use Rattle.bus_peers.specs.inside.Slots.{Stands, AllStand, AllBuilt, AllOwn}
 use Rattle.bus_peers.proofs.ClosingLemmas.{removals-none, removals-one}
 use Rattle.bus_peers.proofs.Standing.{sleeps-now}

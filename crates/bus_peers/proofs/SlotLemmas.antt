@@ -4,9 +4,9 @@ use Rattle.std.specs.List.{list_all}
 use Rattle.std.proofs.lemmas.Bool.{both_ways, and_parts, and_from, or_parts, eq-eqb, ne_eqb, ltb-true, lt-ltb}
 use Rattle.std.proofs.lemmas.Option.{none-some, same_Some}
 use Rattle.std.proofs.lemmas.List.Folds.{list_all-append}
-use Rattle.bus_peers.specs.declared.visiting.Slot.{Slot}
-use Rattle.bus_peers.specs.declared.visiting.Slot.TheVariants as slot
-use Rattle.bus_peers.specs.declared.visiting.Sleeper.{Sleeper}
+use Rattle.bus_visit.specs.declared.visiting.Slot.{Slot}
+use Rattle.bus_visit.specs.declared.visiting.Slot.TheVariants as slot
+use Rattle.bus_visit.specs.declared.visiting.Sleeper.{Sleeper}
 use Rattle.std.specs.Prelude.{Result, Ok, Err}
 use Rattle.std.proofs.lemmas.List.{length-set, length-append}
 use Rattle.react_core.specs.declared.outside.Event.{Event}
@@ -17,13 +17,14 @@ use Rattle.bus_peers.specs.declared.open.OpenError.{OpenError}
 use Rattle.bus_peers.specs.declared.open.OpenError.TheVariants as open_err
 use Rattle.bus_session.specs.Dialling.{Opened}
 use Rattle.bus_session.specs.declared.session.Session.{Session}
-use Rattle.bus_peers.specs.inside.Registry.{Held, RisesFrom}
-use Rattle.bus_peers.specs.inside.Shown.{shown, Tags, tags, tag_at, without_tag, has_wire, Single, are_below}
-use Rattle.bus_peers.specs.inside.Visited.{tags_after, tail_of, RegisteredVisitEnds, MakesRegisteredVisit, Registers, FirstTags, FirstVisits, undialled, dialled}
+use Rattle.bus_visit.specs.Registry.{Held}
+use Rattle.bus_peers.specs.inside.Due.{RisesFrom}
+use Rattle.bus_visit.specs.Shown.{shown, Tags, tags, tag_at, without_tag, has_wire, Single, are_below}
+use Rattle.bus_visit.specs.Visited.{tags_after, tail_of, RegisteredVisitEnds, MakesRegisteredVisit, Registers, FirstTags, FirstVisits, undialled, dialled}
 use Rattle.bus_peers.specs.inside.Rounds.{HaveWires}
 use Rattle.bus_peers.specs.inside.Slots.{Owns, AllOwn, Owned, is_open_slot, CallStandsAfter, VisitsKeepCall, Told, RefusedAt, Refuses}
-use Rattle.bus_peers.proofs.PollInRecord.{waits_in-append}
-use Rattle.bus_peers.proofs.TagLemmas.{has_wire-below, no_wire-without, has_wire-without, other_wire-without, tag_at-without, single-without, below-without, below-weaker}
+use Rattle.bus_visit.specs.laws.Records.{waits_in-append}
+use Rattle.bus_visit.specs.laws.Tags.{has_wire-below, no_wire-without, has_wire-without, other_wire-without, tag_at-without, single-without, below-without, below-weaker}
 
 -- ---- any list and a test
 

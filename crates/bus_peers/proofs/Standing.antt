@@ -14,10 +14,10 @@ use Rattle.bus_record.specs.Pieces as pieces
 use Rattle.bus_record.specs.Pieces.{Pieces, nothing, ◌▸◌, visit, round}
 use Rattle.bus_record.specs.Places.{key_of, waits, paused, moment, is_early, stays_armed, sleeps, sleeps_in, has_ended}
 use Rattle.bus_record.specs.Settled.{AllRest, numbered, comes_to}
-use Rattle.bus_peers.specs.declared.visiting.Slot.{Slot}
-use Rattle.bus_peers.specs.declared.visiting.Slot.TheVariants as slot
+use Rattle.bus_visit.specs.declared.visiting.Slot.{Slot}
+use Rattle.bus_visit.specs.declared.visiting.Slot.TheVariants as slot
 use Rattle.bus_peers.specs.inside.Due.{is_in}
-use Rattle.bus_peers.specs.inside.Registry.{Held}
+use Rattle.bus_visit.specs.Registry.{Held}
 use Rattle.bus_peers.specs.inside.Shows.{Shows}
 use Rattle.bus_peers.specs.inside.Slots.{Paused, Stands, AllStand, AllBuilt}
 use Rattle.bus_peers.proofs.VisitsInRecord.{awake-ends, built-late}

@@ -9,8 +9,8 @@ use Rattle.react_core.specs.declared.reactor.Dir.TheVariants.{Read, Write}
 use Rattle.bus_record.specs.Places.{names, waits_by, reported_by, reported_through, waits_through, armed_by}
 use Rattle.bus_record.specs.Places.{is_dir, stop_of, last_stop_by}
 use Rattle.bus_record.specs.Visits.{Here, here_by}
-use Rattle.bus_peers.specs.inside.Registry.{Idle, Waits, Reported, Held, waits, side_held, stopped_held, arming}
-use Rattle.bus_peers.specs.inside.Calls.{AreCalls}
+use Rattle.bus_visit.specs.Registry.{Idle, Waits, Reported, Held, waits, side_held, stopped_held, arming}
+use Rattle.bus_visit.specs.Calls.{AreCalls}
 use Rattle.bus_peers.specs.inside.Shows.{StandsAt}
 use Rattle.bus_peers.specs.inside.RegisteredVisits.{LeavesAsleep}
 use Rattle.bus_peers.proofs.CallFacts.{OfCall, of-call}

@@ -13,16 +13,16 @@ use Rattle.bus_record.specs.Places.{key_of, key_by, key_through, holder, holder_
 use Rattle.bus_record.specs.Places.{waits_through, reported, reported_by, reported_through, stays_armed, armed_by}
 use Rattle.bus_record.specs.Places.{armed_through, paused, last_stop_by, last_stop}
 use Rattle.bus_record.specs.Visits.{Here, here, was_visited}
-use Rattle.bus_peers.specs.inside.Dials.{Answered, dials_of, opening}
-use Rattle.bus_peers.specs.inside.Registry.{Held, idle, held_at, registry, with_held, without_held}
-use Rattle.bus_peers.specs.inside.Registry as registry_of
-use Rattle.bus_peers.specs.inside.Calls.{AreCalls}
+use Rattle.bus_visit.specs.Dialled.{Answered, dials_of, opening}
+use Rattle.bus_visit.specs.Registry.{Held, idle, held_at, registry, with_held, without_held}
+use Rattle.bus_visit.specs.Registry as registry_of
+use Rattle.bus_visit.specs.Calls.{AreCalls}
 use Rattle.bus_peers.specs.inside.Shows.{StandsAt, ShowsSource, KeysRise, Shows, ShowsAsleep}
 use Rattle.bus_peers.specs.inside.Laws.{FailedDialShows, FirstAsleepShows, FirstOverShows, LaterAsleepShows, LaterOverShows}
 use Rattle.bus_peers.specs.inside.Laws.{OthersStandStill}
 use Rattle.bus_peers.proofs.CallSources.{held_through, calls-at, calls-rise, through-other, through-own, through-key}
 use Rattle.bus_peers.proofs.CallSources.{through-wire, MovesNothing, arm-moves, calls-keys, calls-holders}
-use Rattle.bus_peers.proofs.DialFolds.{dials-still, opening-fold, opening-sources}
+use Rattle.bus_visit.specs.laws.Dials.{dials-still, opening-fold, opening-sources}
 use Rattle.bus_peers.proofs.HeldLists.{registry-append, if-else, if-then, with-rise, with-at, with-others, without-rise}
 use Rattle.bus_peers.proofs.HeldLists.{without-at, without-others}
 use Rattle.bus_peers.proofs.OtherWires.{others-still, own-behind, Unvisited, unvisited}

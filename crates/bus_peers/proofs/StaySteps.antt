@@ -4,8 +4,8 @@ use Rattle.std.proofs.lemmas.Option.{none-some, same_Some}
 use Rattle.react_core.specs.declared.outside.Event.{Event}
 use Rattle.react_core.specs.declared.reactor.Dir.{Dir}
 use Rattle.bus_record.specs.Places.{stop_of}
-use Rattle.bus_peers.specs.inside.Registry.{Side, Idle, Waits, Reported, Held, side_held, stopped_held, arming}
-use Rattle.bus_peers.specs.inside.Asking.{Asking, asks, begins, arms_at}
+use Rattle.bus_visit.specs.Registry.{Side, Idle, Waits, Reported, Held, side_held, stopped_held, arming}
+use Rattle.bus_visit.specs.Asking.{Asking, asks, begins, arms_at}
 use Rattle.bus_peers.proofs.CallFacts.{OfCall, asking_by}
 
 -- these calls lead a visit from there to here

@@ -16,9 +16,9 @@ use Rattle.bus_record.specs.Places.{is_dir, stop_of}
 use Rattle.bus_record.specs.Visits.{Here, here_by, Stage, conversing, arming, reading, leaving, finished, goes_on}
 use Rattle.bus_record.specs.Visits.{asked}
 use Rattle.bus_record.specs.Visits.{after_call, is_armed_with, is_bool}
-use Rattle.bus_peers.specs.inside.Registry.{Idle, Waits, Reported, Held, waits, side_held, stopped_held}
-use Rattle.bus_peers.specs.inside.Registry as registry
-use Rattle.bus_peers.specs.inside.Calls.{AreCalls}
+use Rattle.bus_visit.specs.Registry.{Idle, Waits, Reported, Held, waits, side_held, stopped_held}
+use Rattle.bus_visit.specs.Registry as registry
+use Rattle.bus_visit.specs.Calls.{AreCalls}
 use Rattle.bus_peers.specs.inside.Shows.{StandsAt}
 use Rattle.bus_peers.proofs.CallFacts.{OfCall, of-call}
 use Rattle.bus_peers.proofs.Progresses.{IsOpen, open-before, open-paused, moved}

@@ -11,7 +11,7 @@ use Rattle.react_core.specs.declared.reactor.Dir.TheVariants.{Read, Write}
 use Rattle.bus_record.specs.Pieces.{visit, Pieces, ◌▸◌}
 use Rattle.bus_record.specs.Places.{key_of, holder, holder_through, waits, stays_armed}
 use Rattle.bus_record.specs.Visits.{Here, here}
-use Rattle.bus_peers.specs.inside.Registry.{Held, held_at}
+use Rattle.bus_visit.specs.Registry.{Held, held_at}
 use Rattle.bus_peers.specs.inside.Shows.{StandsAt, ShowsSource, KeysRise, Shows, StandsStill}
 use Rattle.bus_peers.proofs.OtherWires.{others-still}
 use Rattle.bus_peers.proofs.Sides.{side-same}

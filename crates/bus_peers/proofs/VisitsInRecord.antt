@@ -37,27 +37,29 @@ use Rattle.bus_record.specs.Places.{key_of, key_by, key_through, waits, waits_by
 use Rattle.bus_record.specs.Places.{moment, last_reading, last_reading_by}
 use Rattle.bus_record.specs.Visits.{Here, here, Visit}
 use Rattle.bus_record.specs.Settled.{comes_to}
-use Rattle.bus_peers.specs.declared.visiting.Slot.{Slot}
-use Rattle.bus_peers.specs.declared.visiting.Slot.TheVariants as slot
-use Rattle.bus_peers.specs.declared.visiting.Sleeper.{Sleeper}
-use Rattle.bus_peers.specs.inside.Calls.{AreCalls}
-use Rattle.bus_peers.specs.Headline.{after_begun}
-use Rattle.bus_peers.specs.inside.Registry.{Held, Idle, Waits, Reported, waits as held_waits, side_held, stopped_held, held_at, with_held, idle, registry}
-use Rattle.bus_peers.specs.inside.Asking.{Asking, asks, asking_at, begins, arms_at}
+use Rattle.bus_visit.specs.declared.visiting.Slot.{Slot}
+use Rattle.bus_visit.specs.declared.visiting.Slot.TheVariants as slot
+use Rattle.bus_visit.specs.declared.visiting.Sleeper.{Sleeper}
+use Rattle.bus_visit.specs.Calls.{AreCalls}
+use Rattle.bus_visit.specs.Counts.{after_begun}
+use Rattle.bus_visit.specs.Registry.{Held, Idle, Waits, Reported, waits as held_waits, side_held, stopped_held, held_at, with_held, idle, registry}
+use Rattle.bus_visit.specs.Asking.{Asking, asks, asking_at, begins, arms_at}
 use Rattle.bus_peers.specs.inside.Shows.{StandsAt, Shows}
 use Rattle.bus_peers.specs.inside.RegisteredVisits.{FirstDials, opened_course, Converses, Concludes, LeavesAsleep}
-use Rattle.bus_peers.specs.inside.Shown.{IsBetweenCalls, shown}
+use Rattle.bus_visit.specs.Shown.{IsBetweenCalls, shown}
 use Rattle.bus_peers.specs.inside.Slots.{IsNew, Stands, VisitInRecord}
-use Rattle.bus_peers.specs.inside.Dials.{Answered, dials_of, dials_through, opening, DialsTo}
-use Rattle.bus_peers.specs.inside.Visited as visited
-use Rattle.bus_peers.specs.inside.Visited.{is_awake, arms_told, stands_at, Pauses, MakesRegisteredVisit, RegisteredVisit, FirstVisits}
-use Rattle.bus_peers.proofs.PollInRecord.{part-append, goes-append, part-own, part-other}
+use Rattle.bus_visit.specs.Dialled.{Answered, dials_of, dials_through, opening, DialsTo}
+use Rattle.bus_visit.specs.Visited as visited
+use Rattle.bus_visit.specs.Conversed.{is_awake, stands_at, Pauses}
+use Rattle.bus_visit.specs.Noted.{arms_told}
+use Rattle.bus_visit.specs.Visited.{MakesRegisteredVisit, RegisteredVisit, FirstVisits}
+use Rattle.bus_visit.specs.laws.Records.{part-append, goes-append, part-own, part-other}
 use Rattle.bus_peers.proofs.Sides.{side-waits}
-use Rattle.bus_peers.proofs.OtherWiresStay.{with-here}
-use Rattle.bus_peers.proofs.NotReadyNotes.{begun-still}
+use Rattle.bus_peers.proofs.HeldLists.{with-at}
+use Rattle.bus_visit.specs.laws.Interests.{begun-still}
 use Rattle.bus_peers.proofs.OtherWires.{unvisited}
-use Rattle.bus_peers.proofs.DialFolds.{dials-still, opening-fold, opening-sources, opening-armings, opening-waits, opening-part, opening-other}
-use Rattle.bus_peers.proofs.DialFolds.{dials-armings, dials-waits, dials-part, dials-other}
+use Rattle.bus_visit.specs.laws.Dials.{dials-still, opening-fold, opening-sources, opening-waits, opening-part, opening-other}
+use Rattle.bus_visit.specs.laws.Dials.{dials-waits, dials-part, dials-other}
 use Rattle.bus_peers.specs.inside.Shows.{ShowsAsleep}
 use Rattle.bus_peers.proofs.StayShows.{failed-dial-shows, first-asleep-shows, first-over-shows, later-asleep-shows, later-over-shows}
 use Rattle.bus_peers.proofs.WholeVisits.{registered_at, stands-idle, first-visits-fail, first-visits-sleep, first-visits-end, later-visits-sleep, later-visits-end, stays-leave-places}
@@ -79,6 +81,16 @@ plus_none a b e = omega arith
 pub armings-stay : (wire : ℕ) (calls tail : List Event) → AreCalls wire calls → count_by is_modify (calls ++ tail) ≡ count_by is_modify tail
 armings-stay wire calls tail own =
     armings-append calls tail ∙ plus_none (count_by is_modify calls) (count_by is_modify tail) (calls-armings wire calls own)
+
+-- nor do its Dials
+opening-armings : (wire key : ℕ) (dials : List Answered) (rest : List Event) →
+    count_by is_modify (opening wire key dials ++ rest) ≡ count_by is_modify rest
+opening-armings wire key [] rest = refl
+opening-armings wire key (a ∷ dials) rest = opening-armings wire key dials rest
+
+dials-armings : (wire : ℕ) (dials : List Answered) → count_by is_modify (dials_of wire dials) ≡ 0
+dials-armings wire [] = refl
+dials-armings wire (a ∷ dials) = dials-armings wire dials
 
 -- the calls of a wire make no reading
 calls-reading : (wire : ℕ) (calls tail : List Event) (last : Option ℕ) → AreCalls wire calls → last_reading last (calls ++ tail) ≡ last_reading last tail
@@ -429,7 +441,7 @@ module _ (s : Session) (wire key : ℕ) (past : Pieces) (dials : List Answered) 
   dialled-so = first-dials s wire past dials (opens wired) fresh through
 
   idle-here : (h : Held) → held_at (map shown mid.sources) key ≡ Some h → h ≡ idle wire key
-  idle-here h was = same_Some h (idle wire key) (sym was ∙ (ap (λ x. held_at x key) (sym added) ∙ with-here (map shown old.sources) (idle wire key) free))
+  idle-here h was = same_Some h (idle wire key) (sym was ∙ (ap (λ x. held_at x key) (sym added) ∙ with-at (map shown old.sources) (idle wire key) free))
 
   heard : (v own : List Event) → part wire v ≡ own → part wire (pieces.told past ++ opened-visit v) ≡ dials_of wire dials ++ own
   heard v own mine =

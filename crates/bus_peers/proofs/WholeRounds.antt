@@ -19,7 +19,7 @@ use Rattle.bus_record.specs.Places.{deadline_at, sleeps, sleeps_in, last_reading
 use Rattle.bus_record.specs.Visits.{here}
 use Rattle.bus_record.specs.Settled.{Numbered, numbered, sleepers, is_woken, is_late, due, timeout_at, nearest, IsRound}
 use Rattle.bus_record.specs.Settled as settled
-use Rattle.bus_peers.specs.inside.Registry.{Held, held_at, side_held, after_reports_held}
+use Rattle.bus_visit.specs.Registry.{Held, held_at, side_held, after_reports_held}
 use Rattle.bus_peers.specs.inside.Due.{due_at, is_in, AreDue, NoDeadlines}
 use Rattle.bus_peers.specs.inside.Shows.{Shows, ShowsAsleep}
 use Rattle.bus_peers.specs.inside.Laws.{RearmingsAreSame, RoundShows, WokenAreDue, DueWiresAreSame, NothingTimesOut}

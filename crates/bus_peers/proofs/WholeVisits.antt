@@ -19,8 +19,8 @@ use Rattle.bus_record.specs.Pieces.{Pieces, told}
 use Rattle.bus_record.specs.Places.{key_of, holder}
 use Rattle.bus_record.specs.Visits.{Here, Stage, here, here_by, registering, conversing, goes_on, after_dial, starts}
 use Rattle.bus_record.specs.Visits.{starts_at, was_visited, Visit}
-use Rattle.bus_peers.specs.inside.Dials.{Answered, dials_of, dials_through, opening}
-use Rattle.bus_peers.specs.inside.Registry.{idle}
+use Rattle.bus_visit.specs.Dialled.{Answered, dials_of, dials_through, opening}
+use Rattle.bus_visit.specs.Registry.{idle}
 use Rattle.bus_peers.specs.inside.Shows.{StandsAt}
 use Rattle.bus_peers.specs.inside.RegisteredVisits.{FirstDials, opened_course}
 use Rattle.bus_peers.specs.inside.Laws.{StaysEndAsleep, StaysEndOver, StaysLeavePlaces, FirstVisitsFail, FirstVisitsSleep}

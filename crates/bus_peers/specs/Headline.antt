@@ -1,5 +1,5 @@
 -- What `open_all` promises of its answer and of the record.
-use Rattle.std.specs.Prelude.{◌≡◌, ◌≤◌, ◌<◌, ◌^◌, ◌-◌, ◌≢◌, ℕ, ◌+◌, true, List, [], ◌++◌, min, Result, Ok, Err}
+use Rattle.std.specs.Prelude.{◌≡◌, ◌≤◌, ◌<◌, ◌^◌, ◌-◌, ◌≢◌, ℕ, ◌+◌, true, List, [], ◌++◌, Result, Ok, Err}
 use Rattle.std.specs.List.{list_all}
 use Rattle.react_core.specs.declared.outside.Event.{Event}
 use Rattle.react_core.specs.declared.reactor.Counter.TheVariants as counter
@@ -14,11 +14,8 @@ use Rattle.bus_record.specs.Settled.{AllRest, Run, sleepers}
 use Rattle.bus_record.specs.Headline.{Headline}
 use Rattle.bus_peers.specs.declared.open.OpenError.{OpenError}
 use Rattle.bus_peers.specs.declared.open.OpenError.TheVariants as open_err
-use Rattle.bus_peers.specs.Counts.{waits_in, is_delete}
-
--- the count of interests after so many more were begun; it stays at its type's end
-abbrev pub after_begun : ℕ → ℕ → ℕ
-after_begun before armed = min (before + armed) (2 ^ 64 - 1)
+use Rattle.bus_visit.specs.Counts.{waits_in, after_begun}
+use Rattle.bus_peers.specs.Counts.{is_delete}
 
 -- The events that a call told, at Ok: cut into pieces they have the headline, each interest that a visit armed was begun in
 -- the reactor, and so was each round.

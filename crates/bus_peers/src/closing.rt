@@ -10,13 +10,13 @@ ghost use Rattle.bus_peers.specs.declared.open.OpenError.TheVariants as open_err
 ghost use Rattle.bus_peers.specs.Counts.{is_delete};
 ghost use Rattle.bus_peers.specs.inside.Rounds.{is_kept, AllEnd, EndsIn, IsHeld, without_slot, removal_told};
 ghost use Rattle.bus_peers.specs.inside.Closing.{closing};
-ghost use Rattle.bus_peers.specs.inside.Shown.{shown, tags};
+ghost use Rattle.bus_visit.specs.Shown.{shown, tags};
 ghost use Rattle.bus_peers.specs.inside.Slots.{Owned};
-ghost use Rattle.bus_peers.specs.inside.Visited.{VisitCounted};
+ghost use Rattle.bus_peers.specs.inside.SlotFaults.{VisitsCounted};
 
 use crate::open::OpenError;
-use crate::visiting::{Slot, ended_of};
 use bus_session::{Ended, Ending};
+use bus_visit::{Slot, ended_of};
 use react_core::outside::Registrar;
 use react_core::reactor::Reactor;
 use std::alloc::Global;
@@ -35,7 +35,7 @@ fn remove_source<R: Registrar>(
     ensures removals { (more : List Event)
         × ((R.outer registrar.new).events ≡ told ((R.outer registrar.old).events) more)
         × (list_all is_delete more ≡ true) }
-    ensures cause { VisitCounted result ((R.outer registrar.old).poller_faults)
+    ensures cause { VisitsCounted result ((R.outer registrar.old).poller_faults)
         ((R.outer registrar.new).poller_faults) }
     ensures keeps { Keeps part.Poller (R.outer registrar.old) (R.outer registrar.new) }
 {
@@ -61,7 +61,7 @@ pub(crate) fn remove_sources<R: Registrar>(
     ensures removals { (more : List Event)
         × ((R.outer registrar.new).events ≡ told ((R.outer registrar.old).events) more)
         × (list_all is_delete more ≡ true) }
-    ensures cause { VisitCounted result ((R.outer registrar.old).poller_faults)
+    ensures cause { VisitsCounted result ((R.outer registrar.old).poller_faults)
         ((R.outer registrar.new).poller_faults) }
     ensures keeps { Keeps part.Poller (R.outer registrar.old) (R.outer registrar.new) }
 {

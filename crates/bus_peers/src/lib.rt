@@ -2,11 +2,8 @@
 #![tactic(auto)]
 
 mod closing;
-mod conversation;
-mod dialling;
 mod open;
 mod rounds;
-mod visiting;
 
 pub use bus_scene::{Played, QueuedAnswers, Scene};
 pub use bus_script::{Reason, ScriptError, ScriptForm};

@@ -12,14 +12,14 @@ ghost use Rattle.bus_peers.specs.Faults.{EndedsCounted};
 ghost use Rattle.bus_peers.specs.inside.SlotFaults.{AllCounted};
 ghost use Rattle.bus_peers.specs.Headline.{Opened, RefusedWith, OpenCounted, Completes};
 ghost use Rattle.bus_session.specs.Sessions.{is_built};
-ghost use Rattle.bus_peers.specs.inside.Shown.{IsBetweenCalls, tags};
+ghost use Rattle.bus_visit.specs.Shown.{IsBetweenCalls, tags};
 ghost use Rattle.bus_peers.specs.inside.Slots.{Owned, AllOpen, CallStandsAfter, CallSettled, Refuses, Halts};
-ghost use Rattle.bus_peers.specs.inside.Visited.{VisitCounted};
+ghost use Rattle.bus_peers.specs.inside.SlotFaults.{VisitsCounted};
 
 use crate::closing::{endeds_in, remove_sources};
 use crate::rounds::{Nobody, go_rounds};
-use crate::visiting::{Slot, first_visit};
 use bus_session::{Ended, Session};
+use bus_visit::{Slot, first_visit};
 use react_core::outside::{OutOfMemory, Outside};
 use react_core::reactor::{Counter, ReactError, Reactor};
 use std::alloc::{AllocError, AllocFailed, Global};
@@ -107,7 +107,7 @@ fn open_first<O: Outside>(
     ensures owned { Owned slots.new.items (tags reactor.new.core.sources) }
     ensures refused { Refuses result ((O.outer outside.old).events) ((O.outer outside.new).events) reactor.old.core
         reactor.new.core }
-    ensures cause { VisitCounted result ((O.outer outside.old).poller_faults) ((O.outer outside.new).poller_faults) }
+    ensures cause { VisitsCounted result ((O.outer outside.old).poller_faults) ((O.outer outside.new).poller_faults) }
     ensures counted { OnOk result (AllCounted 0 slots.new.items (O.outer outside.old) (O.outer outside.new)) }
     ensures timers { reactor.new.core.made ≡ reactor.old.core.made }
     ensures keeps { (room : ℕ) → Keeps (part.All room) (O.outer outside.old) (O.outer outside.new) }

@@ -8,16 +8,16 @@ ghost use Rattle.react_core.specs.declared.outside.Event.{Event};
 ghost use Rattle.bus_peers.specs.inside.SlotFaults.{CountsOn};
 ghost use Rattle.bus_peers.specs.Headline.{OpenCounted};
 ghost use Rattle.bus_peers.specs.inside.Rounds.{Rounded, WokenBy, HaveWires, OnExhausted};
-ghost use Rattle.bus_peers.specs.inside.Registry.{RisesFrom};
+ghost use Rattle.bus_peers.specs.inside.Due.{RisesFrom};
 ghost use Rattle.bus_peers.specs.declared.open.OpenError.TheVariants as open_err;
 ghost use Rattle.bus_peers.specs.inside.Due.{is_in};
-ghost use Rattle.bus_peers.specs.inside.Shown.{IsBetweenCalls, tags, has_wire};
+ghost use Rattle.bus_visit.specs.Shown.{IsBetweenCalls, tags, has_wire};
 ghost use Rattle.bus_peers.specs.inside.Slots.{Owned, AllOpen, VisitsKeepCall, RoundKeepsCall, RoundsSettleCall, Told, Refuses, Stuck};
-ghost use Rattle.bus_peers.specs.inside.Visited.{VisitCounted};
+ghost use Rattle.bus_peers.specs.inside.SlotFaults.{VisitsCounted};
 
 use crate::open::OpenError;
-use crate::visiting::{Sleeper, Slot, visit};
 use bus_session::Session;
+use bus_visit::{Sleeper, Slot, visit};
 use react_core::outside::{Clock, Outside, Poller, Registrar, Wakes, Wire};
 use react_core::reactor::Reactor;
 use std::alloc::Global;
@@ -127,7 +127,7 @@ fn visit_slot<O: Wire + Registrar>(
         × Told ((O.outer outside.old).events) ((O.outer outside.new).events) reactor.old.core reactor.new.core more) }
     ensures refused { Refuses result ((O.outer outside.old).events) ((O.outer outside.new).events) reactor.old.core
         reactor.new.core }
-    ensures cause { VisitCounted result ((O.outer outside.old).poller_faults) ((O.outer outside.new).poller_faults) }
+    ensures cause { VisitsCounted result ((O.outer outside.old).poller_faults) ((O.outer outside.new).poller_faults) }
     ensures counted { OnOk result
         (CountsOn slots.old.items slots.new.items (O.outer outside.old) (O.outer outside.new)) }
     ensures timers { reactor.new.core.made ≡ reactor.old.core.made }
@@ -168,7 +168,7 @@ fn visit_woken<O: Wire + Registrar>(
         × Told ((O.outer outside.old).events) ((O.outer outside.new).events) reactor.old.core reactor.new.core more) }
     ensures refused { Refuses result ((O.outer outside.old).events) ((O.outer outside.new).events) reactor.old.core
         reactor.new.core }
-    ensures cause { VisitCounted result ((O.outer outside.old).poller_faults) ((O.outer outside.new).poller_faults) }
+    ensures cause { VisitsCounted result ((O.outer outside.old).poller_faults) ((O.outer outside.new).poller_faults) }
     ensures counted { OnOk result
         (CountsOn slots.old.items slots.new.items (O.outer outside.old) (O.outer outside.new)) }
     ensures timers { reactor.new.core.made ≡ reactor.old.core.made }

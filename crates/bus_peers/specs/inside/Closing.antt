@@ -2,7 +2,7 @@
 use Rattle.std.specs.Prelude.{ℕ, zero, suc, ◌+◌, true, ◌==◌, if◌then◌else◌, List, [], ◌∷◌, ◌++◌}
 use Rattle.react_core.specs.declared.outside.Event.{Event}
 use Rattle.react_core.specs.declared.outside.Event.TheVariants as event
-use Rattle.bus_peers.specs.inside.Registry.{Held}
+use Rattle.bus_visit.specs.Registry.{Held}
 
 -- these many numbers from one on
 abbrev pub counting : ℕ → ℕ → List ℕ

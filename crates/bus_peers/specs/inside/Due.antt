@@ -1,9 +1,9 @@
 -- The wires that the reports of a round make due.
-use Rattle.std.specs.Prelude.{◌≡◌, ℕ, Bool, ◌&&◌, ◌||◌, ◌==◌, List, Some, None, slice_get}
+use Rattle.std.specs.Prelude.{◌≡◌, ◌≤◌, ◌+◌, ℕ, Bool, ◌&&◌, ◌||◌, ◌==◌, List, [], ◌∷◌, Some, None, slice_get}
 use Rattle.std.specs.List.{list_any}
 use Rattle.react_core.specs.declared.outside.Report.{Report}
 use Rattle.bus_session.specs.declared.session.Session.{Session}
-use Rattle.bus_peers.specs.inside.Registry.{Held, waits, RisesFrom}
+use Rattle.bus_visit.specs.Registry.{Held, waits}
 
 -- some of the reports name a direction that waits
 abbrev pub is_due : List Report → Held → Bool
@@ -17,6 +17,11 @@ due_at held reports wire = list_any (λ h. (h.wire == wire) && is_due reports h)
 -- the wire is one of these
 abbrev pub is_in : ℕ → List ℕ → Bool
 is_in wire wires = list_any (λ w. w == wire) wires
+
+-- the numbers rise, the first from this one on
+abbrev pub RisesFrom : ℕ → List ℕ → Type 0
+RisesFrom low [] = Unit {0}
+RisesFrom low (n ∷ numbers) = (low ≤ n) × RisesFrom (n + 1) numbers
 
 -- the wires that a round's reports make due, each once and in order
 pub record AreDue (held : List Held) (reports : List Report) (wires : List ℕ) : Type 0 where

@@ -16,8 +16,9 @@ use Rattle.bus_record.specs.Visits.{Here, here, conversing, finished, goes_on, w
 use Rattle.bus_record.specs.Settled.{timeout_at, IsRound, is_woken, due}
 use Rattle.bus_record.specs.Settled as settled
 use Rattle.bus_peers.specs.inside.Due.{due_at, AreDue, NoDeadlines}
-use Rattle.bus_peers.specs.inside.Dials.{Answered, dials_of, opening}
-use Rattle.bus_peers.specs.inside.Registry.{after_reports_held, rearming, Held, idle, held_at, registry}
+use Rattle.bus_visit.specs.Dialled.{Answered, dials_of, opening}
+use Rattle.bus_visit.specs.Registry.{after_reports_held, Held, idle, held_at, registry}
+use Rattle.bus_peers.specs.inside.RoundEvents.{rearming}
 use Rattle.bus_peers.specs.inside.Shows.{StandsAt, Shows, ShowsAsleep, StandsStill}
 use Rattle.bus_peers.specs.inside.RegisteredVisits.{FirstDials, opened_course, Converses, Concludes, LeavesAsleep}
 

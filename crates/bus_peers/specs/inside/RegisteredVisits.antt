@@ -11,10 +11,10 @@ use Rattle.bus_session.specs.Alone.{converses, silence, Course, goes_through, ou
 use Rattle.bus_record.specs.Pieces.{Pieces, told}
 use Rattle.bus_record.specs.Places.{waits_through, reported_through, armed_through, last_stop}
 use Rattle.bus_record.specs.Visits.{Here, was_visited}
-use Rattle.bus_peers.specs.inside.Registry.{Held, waits, side_held}
-use Rattle.bus_peers.specs.inside.Asking.{asks, begins}
-use Rattle.bus_peers.specs.inside.Dials.{Answered, dials_through}
-use Rattle.bus_peers.specs.inside.Calls.{AreCalls}
+use Rattle.bus_visit.specs.Registry.{Held, waits, side_held}
+use Rattle.bus_visit.specs.Asking.{asks, begins}
+use Rattle.bus_visit.specs.Calls.{AreCalls}
+use Rattle.bus_visit.specs.Dialled.{Answered, dials_through}
 use Rattle.bus_peers.specs.inside.Shows.{IsSide}
 
 -- The Dials of a session that had no visit: its dialling asks them, one after another, and they come to this.

@@ -11,14 +11,14 @@ use Rattle.react_core.specs.Told.{told}
 use Rattle.bus_session.specs.declared.ended.Ending.TheVariants as ending
 use Rattle.bus_session.specs.declared.ended.Ended.{Ended}
 use Rattle.bus_peers.specs.declared.rounds.Woken.{Woken}
-use Rattle.bus_peers.specs.declared.visiting.Slot.{Slot}
-use Rattle.bus_peers.specs.declared.visiting.Slot.TheVariants as slot
+use Rattle.bus_visit.specs.declared.visiting.Slot.{Slot}
+use Rattle.bus_visit.specs.declared.visiting.Slot.TheVariants as slot
 use Rattle.bus_peers.specs.declared.open.OpenError.{OpenError}
 use Rattle.bus_peers.specs.declared.open.OpenError.TheVariants as open_err
-use Rattle.bus_peers.specs.inside.RoundEvents.{Round, IsRound, round_told}
-use Rattle.bus_peers.specs.inside.Registry.{Held, registry, rearming}
+use Rattle.bus_peers.specs.inside.RoundEvents.{Round, IsRound, round_told, rearming}
+use Rattle.bus_visit.specs.Registry.{Held, registry}
 use Rattle.bus_peers.specs.inside.Due.{AreDue}
-use Rattle.bus_peers.specs.inside.Shown.{IsBetweenCalls, shown, Tags, has_wire}
+use Rattle.bus_visit.specs.Shown.{IsBetweenCalls, shown, Tags, has_wire}
 
 -- a task stands behind those that were woken before, unless memory ran out
 abbrev pub WokenBy : Woken → ℕ → Woken → Type 0

@@ -6,7 +6,7 @@ use Rattle.react_core.specs.declared.reactor.Dir.TheVariants.{Read, Write}
 use Rattle.bus_record.specs.Pieces.{Pieces}
 use Rattle.bus_record.specs.Places.{key_of, holder, waits, reported, paused, moment, notified, stays_armed}
 use Rattle.bus_record.specs.Visits.{Here, here, was_visited}
-use Rattle.bus_peers.specs.inside.Registry.{Side, Idle, Waits, Reported, Held, held_at, side_held, waits as waits_side}
+use Rattle.bus_visit.specs.Registry.{Side, Idle, Waits, Reported, Held, held_at, side_held, waits as waits_side}
 
 -- whether a direction waits and whether it was reported, by how it stands
 abbrev pub IsSide : Bool → Bool → Side → Type 0

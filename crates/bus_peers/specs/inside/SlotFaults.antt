@@ -1,22 +1,11 @@
 -- Which counts of faults the slots of a call, and its steps, show.
-use Rattle.std.specs.Prelude.{ℕ, ◌+◌, List, [], ◌∷◌}
+use Rattle.std.specs.Prelude.{◌≡◌, ◌≤◌, ℕ, ◌+◌, List, [], ◌∷◌, Result, Ok, Err}
 use Rattle.react_core.specs.Outer.{Outer, NoneFalls}
-use Rattle.bus_peers.specs.declared.visiting.PollEnd.{PollEnd}
-use Rattle.bus_peers.specs.declared.visiting.PollEnd.TheVariants as poll_end
-use Rattle.bus_peers.specs.declared.visiting.Slot.{Slot}
-use Rattle.bus_peers.specs.declared.visiting.Slot.TheVariants as slot
-use Rattle.bus_peers.specs.Faults.{EndingCounted}
-
--- how a poll ended
-abbrev pub PollEndCounted : {Origin : Type 0} → ℕ → PollEnd → Outer Origin → Outer Origin → Type 0
-PollEndCounted wire (poll_end.Over e) before after = EndingCounted wire e before after
-PollEndCounted wire poll_end.Again before after = Unit {0}
-PollEndCounted wire poll_end.Asleep before after = Unit {0}
-
-abbrev pub SlotCounted : {Origin : Type 0} → ℕ → Slot → Outer Origin → Outer Origin → Type 0
-SlotCounted wire (slot.Ended e) before after = EndingCounted wire e.ending before after
-SlotCounted wire (slot.Asleep s) before after = Unit {0}
-SlotCounted wire slot.Refused before after = Unit {0}
+use Rattle.react_core.specs.Told.{Rose}
+use Rattle.bus_visit.specs.declared.visiting.Slot.{Slot}
+use Rattle.bus_peers.specs.declared.open.OpenError.{OpenError}
+use Rattle.bus_peers.specs.declared.open.OpenError.TheVariants as open_err
+use Rattle.bus_visit.specs.Faults.{SlotCounted}
 
 -- the first of these slots is that of this wire
 abbrev pub AllCounted : {Origin : Type 0} → ℕ → List Slot → Outer Origin → Outer Origin → Type 0
@@ -32,3 +21,10 @@ pub record NoneFell {Origin : Type 0} (before after : Outer Origin) : Type 0 whe
 abbrev pub CountsOn : {Origin : Type 0} → List Slot → List Slot → Outer Origin → Outer Origin → Type 0
 CountsOn {Origin} slots slots' old new =
     (start : Outer Origin) → NoneFell start old → AllCounted 0 slots start old → AllCounted 0 slots' start new
+
+-- Visits and removals need no round's number, and the answer is Poller only where the poller's count rose.
+abbrev pub VisitsCounted : {T : Type 0} → Result T OpenError → ℕ → ℕ → Type 0
+VisitsCounted (Ok v) before now = now ≡ before
+VisitsCounted (Err open_err.Poller) before now = Rose before now
+VisitsCounted (Err open_err.OutOfMemory) before now = before ≤ now
+VisitsCounted (Err (open_err.Exhausted c value)) before now = ⊥

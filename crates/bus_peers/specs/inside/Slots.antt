@@ -19,16 +19,15 @@ use Rattle.bus_record.specs.Places.{key_of, waits, paused, moment}
 use Rattle.bus_record.specs.Visits.{was_visited, Visit}
 use Rattle.bus_record.specs.Settled.{AllRest, Run, sleepers, comes_to}
 use Rattle.bus_record.specs.Headline.{IsEnding}
-use Rattle.bus_peers.specs.declared.visiting.Slot.{Slot}
-use Rattle.bus_peers.specs.declared.visiting.Slot.TheVariants as slot
+use Rattle.bus_visit.specs.declared.visiting.Slot.{Slot}
+use Rattle.bus_visit.specs.declared.visiting.Slot.TheVariants as slot
 use Rattle.bus_peers.specs.declared.open.OpenError.{OpenError}
 use Rattle.bus_peers.specs.declared.open.OpenError.TheVariants as open_err
-use Rattle.bus_peers.specs.Counts.{waits_in}
-use Rattle.bus_peers.specs.Headline.{after_begun}
+use Rattle.bus_visit.specs.Counts.{waits_in, after_begun}
 use Rattle.bus_peers.specs.inside.Shows.{Shows}
 use Rattle.bus_peers.specs.inside.Due.{is_in}
-use Rattle.bus_peers.specs.inside.Shown.{IsBetweenCalls, shown, Tags, tag_at, has_wire, Single, are_below}
-use Rattle.bus_peers.specs.inside.Visited.{is_awake, stands_at}
+use Rattle.bus_visit.specs.Shown.{IsBetweenCalls, shown, Tags, tag_at, has_wire, Single, are_below}
+use Rattle.bus_visit.specs.Conversed.{is_awake, stands_at}
 
 -- ---- which slot owns which key
 

@@ -3,7 +3,7 @@ use Rattle.react_core.specs.Outer.{keeps-same, keeps-then}
 use Rattle.react_core.specs.Outer as part
 use Rattle.react_core.specs.Told.{told-nothing}
 use Rattle.bus_peers.specs.inside.Rounds.{removal_told}
-use Rattle.bus_peers.specs.inside.Shown.{shown, tags}
+use Rattle.bus_visit.specs.Shown.{shown, tags}
 use Rattle.bus_peers.specs.inside.Slots.{Owns}
 use Rattle.bus_peers.proofs.ClosingLemmas.{left-none, owns-slot, left-held, left-next, reactor-slot, reactor-end, removal-slot, told-slot, told-end, removals-more, counted-both}
 use Rattle.bus_peers.proofs.closing.remove_sources.Goals as goal

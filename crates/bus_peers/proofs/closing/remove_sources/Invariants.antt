@@ -6,8 +6,8 @@ use Rattle.react_core.specs.Outer as part
 use Rattle.react_core.specs.Told.{told}
 use Rattle.bus_peers.specs.Counts.{is_delete}
 use Rattle.bus_peers.specs.inside.Closing.{closing}
-use Rattle.bus_peers.specs.inside.Shown.{shown, tags}
-use Rattle.bus_peers.specs.inside.Visited.{VisitCounted}
+use Rattle.bus_visit.specs.Shown.{shown, tags}
+use Rattle.bus_peers.specs.inside.SlotFaults.{VisitsCounted}
 use Rattle.bus_peers.proofs.ClosingLemmas.{Left, with_sources}
 use Rattle.bus_peers.proofs.closing.remove_sources.Given as goal
 
@@ -18,6 +18,6 @@ invariant-loop-slot g l = record {
   left : Left l.slot-index (length l.fn.slots.items) (tags l.fn.reactor.core.sources) (tags l.reactor.core.sources);
   told_so : OnOk l.answer ((g.R.Tells.outer l.registrar).events ≡ told ((g.R.Tells.outer l.fn.registrar).events) (closing l.slot-index 0 (map shown l.fn.reactor.core.sources)));
   removals : (more : List Event) × ((g.R.Tells.outer l.registrar).events ≡ told ((g.R.Tells.outer l.fn.registrar).events) more) × (list_all is_delete more ≡ true);
-  cause : VisitCounted l.answer ((g.R.Tells.outer l.fn.registrar).poller_faults) ((g.R.Tells.outer l.registrar).poller_faults);
+  cause : VisitsCounted l.answer ((g.R.Tells.outer l.fn.registrar).poller_faults) ((g.R.Tells.outer l.registrar).poller_faults);
   keeps : Keeps part.Poller (g.R.Tells.outer l.fn.registrar) (g.R.Tells.outer l.registrar);
 }

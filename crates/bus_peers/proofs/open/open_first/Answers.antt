@@ -3,12 +3,12 @@ use Rattle.std.specs.List.{list_all}
 use Rattle.std.proofs.lemmas.List.{length-append}
 use Rattle.std.proofs.lemmas.Option.{slice_get-get_or}
 use Rattle.bus_session.specs.declared.session.Session.{Session}
-use Rattle.bus_peers.specs.declared.visiting.Slot.{Slot}
+use Rattle.bus_visit.specs.declared.visiting.Slot.{Slot}
 use Rattle.bus_peers.specs.inside.Closing.{counting}
-use Rattle.bus_peers.specs.inside.Shown.{tags}
+use Rattle.bus_visit.specs.Shown.{tags}
 use Rattle.bus_peers.specs.inside.Slots.{Owned, CallStandsAfter, Refuses, is_open_slot}
 use Rattle.bus_session.specs.Sessions.{is_built}
-use Rattle.bus_peers.specs.inside.Visited.{FirstVisits}
+use Rattle.bus_visit.specs.Visited.{FirstVisits}
 use Rattle.react_core.specs.Outer.{keeps-same, keeps-then, visit-in-all}
 use Rattle.react_core.specs.Outer as part
 use Rattle.bus_peers.specs.inside.SlotFaults.{AllCounted}

@@ -3,7 +3,7 @@ use Rattle.react_core.specs.Outer.{Keeps}
 use Rattle.react_core.specs.Outer as part
 use Rattle.bus_peers.specs.inside.SlotFaults.{AllCounted}
 use Rattle.bus_peers.specs.inside.Closing.{counting}
-use Rattle.bus_peers.specs.inside.Shown.{tags}
+use Rattle.bus_visit.specs.Shown.{tags}
 use Rattle.bus_peers.specs.inside.Slots.{Owned, AllOpen, CallStandsAfter}
 use Rattle.bus_peers.proofs.open.open_first.Given as goal
 

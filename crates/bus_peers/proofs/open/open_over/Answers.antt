@@ -1,7 +1,7 @@
 use Rattle.bus_peers.proofs.OpenLemmas.{rested-kept, answers-none, answers-refused, answers-unremoved, answers-opened}
 use Rattle.react_core.specs.Outer.{keeps-same, keeps-then, poller-in-all}
 use Rattle.react_core.specs.Outer as part
-use Rattle.bus_peers.proofs.FirstVisit.{if-ok}
+use Rattle.std.proofs.lemmas.Result.{IfOk-weaker}
 use Rattle.bus_peers.proofs.FrameLemmas.{fell-all, all-later, all-ended}
 use Rattle.bus_peers.proofs.open.open_over.Goals as goal
 
@@ -47,6 +47,6 @@ pub returns-clause-keeps : goal.returns-clause-keeps
 returns-clause-keeps g c = keeps-then (part.All c.args.reactor.now.events) _ _ _ c.open_rounds-opened.ensures.keeps (poller-in-all c.args.reactor.now.events _ _ c.remove_sources-removed.ensures.keeps)
 
 pub returns-clause-faults : goal.returns-clause-faults
-returns-clause-faults g c = if-ok c.endeds_in.result
+returns-clause-faults g c = IfOk-weaker c.endeds_in.result _ _
     (λ endeds ends. all-ended 0 c.open_rounds-opened.new.slots.items endeds.items _ _ ends
     (all-later 0 c.open_rounds-opened.new.slots.items _ _ _ (fell-all 0 _ _ (poller-in-all 0 _ _ c.remove_sources-removed.ensures.keeps)) c.in_ok-opened.ensures.counted)) c.endeds_in.ensures.ended

@@ -3,7 +3,7 @@ use Rattle.react_core.specs.declared.outside.Event.{Event}
 use Rattle.react_core.specs.Outer.{Keeps}
 use Rattle.react_core.specs.Outer as part
 use Rattle.bus_peers.specs.inside.SlotFaults.{CountsOn}
-use Rattle.bus_peers.specs.inside.Shown.{IsBetweenCalls, tags}
+use Rattle.bus_visit.specs.Shown.{IsBetweenCalls, tags}
 use Rattle.bus_peers.specs.inside.Slots.{Owned, AllOpen, Told}
 use Rattle.bus_peers.proofs.CallRounds.{RoundsKeepCall}
 use Rattle.bus_peers.proofs.rounds.go_rounds.Given as goal

@@ -2,12 +2,12 @@ use Rattle.std.proofs.Common.{◌≡◌, ◌<◌, ℕ, List, length, true, not, 
 use Rattle.std.specs.List.{list_all}
 use Rattle.std.proofs.lemmas.Bool.{not-true}
 use Rattle.std.proofs.lemmas.Option.{same_Some, slice_get_read}
-use Rattle.bus_peers.specs.declared.visiting.Slot.{Slot}
-use Rattle.bus_peers.specs.declared.visiting.Slot.TheVariants as slot
-use Rattle.bus_peers.specs.declared.visiting.Sleeper.{Sleeper}
-use Rattle.bus_peers.specs.inside.Shown.{Tags, tag_at, tags, has_wire}
+use Rattle.bus_visit.specs.declared.visiting.Slot.{Slot}
+use Rattle.bus_visit.specs.declared.visiting.Slot.TheVariants as slot
+use Rattle.bus_visit.specs.declared.visiting.Sleeper.{Sleeper}
+use Rattle.bus_visit.specs.Shown.{Tags, tag_at, tags, has_wire}
 use Rattle.bus_peers.specs.inside.Slots.{Owned, AllOpen, is_open_slot, VisitsKeepCall}
-use Rattle.bus_peers.proofs.TagLemmas.{has_wire-below, tag-held, other_wire-without}
+use Rattle.bus_visit.specs.laws.Tags.{has_wire-below, tag-held, other_wire-without}
 use Rattle.bus_peers.proofs.SlotLemmas.{test-at, test-set, set-set, owns-at, asleep-at, owned-refused, owned-stays, others-stay, open-stays, stays-told}
 use Rattle.react_core.specs.Outer.{visit-in-all}
 use Rattle.bus_peers.specs.inside.SlotFaults.{CountsOn}

@@ -1,6 +1,6 @@
 use Rattle.std.proofs.Common.{rules, ◌≡◌, ◌<◌, ◌+◌, ℕ, List, ◌∷◌, length, drop, slice_index_or, refl, ◌∙◌, arith, add-one, drop-cons}
 use Rattle.std.proofs.lemmas.List.{drop_all}
-use Rattle.bus_peers.specs.inside.Shown.{tags}
+use Rattle.bus_visit.specs.Shown.{tags}
 use Rattle.bus_peers.specs.inside.Slots.{Refuses}
 use Rattle.react_core.specs.Outer.{keeps-same, keeps-then}
 use Rattle.react_core.specs.Outer as part

@@ -4,8 +4,8 @@ use Rattle.react_core.specs.Outer.{Keeps}
 use Rattle.react_core.specs.Outer as part
 use Rattle.bus_peers.specs.inside.SlotFaults.{CountsOn}
 use Rattle.bus_peers.specs.inside.Rounds.{HaveWires}
-use Rattle.bus_peers.specs.inside.Registry.{RisesFrom}
-use Rattle.bus_peers.specs.inside.Shown.{IsBetweenCalls, tags}
+use Rattle.bus_peers.specs.inside.Due.{RisesFrom}
+use Rattle.bus_visit.specs.Shown.{IsBetweenCalls, tags}
 use Rattle.bus_peers.specs.inside.Slots.{Owned, AllOpen, VisitsKeepCall, Told}
 use Rattle.bus_peers.proofs.rounds.visit_woken.Given as goal
 

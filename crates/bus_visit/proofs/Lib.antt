@@ -1,0 +1,10 @@
+pub mod NewTags
+pub mod PollChangesSources
+pub mod NotReadyNotes
+pub mod OtherWiresStay
+pub mod PollInRecord
+pub mod PollInVisit
+pub mod VisitFrames
+pub mod StayLemmas
+pub mod FirstVisit
+pub mod DialLemmas

@@ -1,0 +1,297 @@
+-- A turn of a visit: a poll of the conversation, and the note of its stop; and one turn after another.
+use Rattle.std.proofs.Common.{◌≡◌, ◌⊎◌, inl, inr, ℕ, Bool, true, false, List, [], ◌++◌, map, length, Option, Some, None, Result, Ok, Err, OnErr, ◌<◌, ◌^◌, if◌then◌else◌, arith, refl, sym, ◌∙◌, ap, subst}
+use Rattle.std.specs.Option.{option_and_then}
+use Rattle.std.proofs.lemmas.List.{append_assoc, append-nil}
+use Rattle.react_core.specs.Told.{told, told-told}
+use Rattle.react_core.specs.Core.{Core}
+use Rattle.react_core.specs.declared.outside.Event.{Event}
+use Rattle.react_core.specs.declared.reactor.Dir.{Dir}
+use Rattle.react_core.specs.declared.reactor.Dir.TheVariants.{Read, Write}
+use Rattle.bus_opening.specs.Openings.{Opening, StandsIn, written_of, rest_of}
+use Rattle.bus_opening.specs.Polling.{Polls, Leaves}
+use Rattle.bus_opening.specs.declared.verdict.Verdict.{Verdict}
+use Rattle.bus_opening.specs.declared.verdict.Verdict.TheVariants as verdict
+use Rattle.bus_opening.specs.declared.verdict.Step.{Step}
+use Rattle.bus_opening.specs.declared.verdict.Step.TheVariants as step
+use Rattle.bus_session.specs.declared.ended.Ending.{Ending}
+use Rattle.bus_visit.specs.declared.visiting.PollEnd.{PollEnd}
+use Rattle.bus_visit.specs.declared.visiting.PollEnd.TheVariants as poll_end
+use Rattle.bus_session.specs.Parts.{part}
+use Rattle.bus_session.specs.Alone.{goes_through, outcome_of}
+use Rattle.bus_visit.specs.Counts.{after_begun, waits_in}
+use Rattle.bus_visit.specs.Registry.{Held, Side, Idle, Waits, Reported, stopped, side_held, stopped_held, held_at, registry}
+use Rattle.bus_visit.specs.Asking.{asks, begins, arms_at}
+use Rattle.bus_visit.specs.Shown.{IsBetweenCalls, shown, Tags, tags}
+use Rattle.bus_visit.specs.Conversed.{is_awake, ending_of, stands_at, GoesOn}
+use Rattle.bus_visit.specs.Visited.{KeepsCall, PollEndsAs, VisitPolls, may_ask, OnAgain}
+use Rattle.bus_visit.specs.Noted.{Holds, arms_told, asks_again, NotReadyNoted}
+use Rattle.bus_visit.specs.laws.Records.{registry-append, asks-append, goes-append, waits_in-append, AreCalls-append}
+use Rattle.bus_visit.proofs.PollInRecord.{stop_step, EndedBy, StoppedBy, poll-waits, poll-ended, poll-stopped}
+use Rattle.bus_visit.proofs.NotReadyNotes.{stopped-wire}
+use Rattle.bus_visit.proofs.OtherWiresStay.{noted-keeps}
+use Rattle.bus_visit.specs.laws.Armings.{arming-quiet, arming-apart, arming-waits}
+
+-- ---- what was told so far, at a refusal
+
+pub on-err : {T E : Type 0} {P : Type 0} (r : Result T E) → P → OnErr r P
+on-err (Ok v) p = tt {0}
+on-err (Err e) p = p
+
+no-waits-append : (a b : List Event) → waits_in a ≡ 0 → waits_in b ≡ 0 → waits_in (a ++ b) ≡ 0
+no-waits-append a b none none' = waits_in-append a b ∙ rw (none, none') refl
+
+pub keeps-after : (expected : Tags) (r0 r1 r2 : Option (List Event)) (old mid new : Core) (first : List Event) → r1 ≡ told r0 first → waits_in first ≡ 0 → mid.ticker ≡ old.ticker → mid.made ≡ old.made →
+    KeepsCall expected r1 r2 mid new → KeepsCall expected r0 r2 old new
+keeps-after expected r0 r1 r2 old mid new first gained none ticker made (more, k) = (
+  first ++ more,
+  record {
+    gained = k.gained ∙ (ap (λ r. told r more) gained ∙ told-told r0 first more);
+    waits = no-waits-append first more none k.waits;
+    ticker = k.ticker ∙ ticker;
+    made = k.made ∙ made;
+    tags = k.tags;
+    closed = k.closed;
+  },
+)
+
+pub keeps-poll : (wire : ℕ) (r0 r1 : Option (List Event)) (core : Core) (c c' : Opening) (answer : Step) → IsBetweenCalls core → Polls Opening StandsIn written_of wire c c' r0 r1 answer → KeepsCall (tags core.sources) r0 r1 core core
+keeps-poll wire r0 r1 core c c' answer rests polls = (
+  polls.events ++ polls.final,
+  record {
+    gained = polls.moves.gained;
+    waits = poll-waits wire r0 r1 c c' answer polls;
+    ticker = refl;
+    made = refl;
+    tags = refl;
+    closed = rests.idle;
+  },
+)
+
+pub keeps-ready : (wire : ℕ) (r0 r1 r2 : Option (List Event)) (old new : Core) (c c' : Opening) (answer : Step) → Polls Opening StandsIn written_of wire c c' r0 r1 answer →
+    KeepsCall (tags old.sources) r1 r2 old new → KeepsCall (tags old.sources) r0 r2 old new
+keeps-ready wire r0 r1 r2 old new c c' answer polls = keeps-after (tags old.sources) r0 r1 r2 old old new (polls.events ++ polls.final) polls.moves.gained (poll-waits wire r0 r1 c c' answer polls) refl refl
+
+-- ---- a turn that ends
+
+awake-ending : (v : Verdict) → is_awake (ending_of v) ≡ true
+awake-ending (verdict.Authenticated settled) = refl
+awake-ending verdict.Handshake = refl
+awake-ending verdict.Io = refl
+awake-ending verdict.LineTooLong = refl
+awake-ending verdict.TooManyCommands = refl
+
+none-begun : (n : ℕ) → n < 2 ^ 64 → n ≡ after_begun n 0
+none-begun n fits = omega arith
+
+more-begun : (x y z n : ℕ) → y ≡ after_begun x 0 → z ≡ after_begun y n → z ≡ after_begun x n
+more-begun x y z n e f = omega arith
+
+ended-turn : (wire key : ℕ) (r0 r1 : Option (List Event)) (core : Core) (c c' : Opening) (v : Verdict) (calls : List Event) → Holds core key wire → IsBetweenCalls core → EndedBy wire r0 r1 c c' v calls →
+    VisitPolls wire key r0 r1 core core c c' (poll_end.Over (ending_of v))
+ended-turn wire key r0 r1 core c c' v calls (h, at, own) rests es = (
+  h,
+  h,
+  calls,
+  None,
+  record {
+    was = at;
+    wired = own;
+    now = at;
+    wired' = own;
+    gained = es.gained ∙ ap (told r0) (sym (append-nil calls));
+    own = es.own;
+    asked = es.asked h;
+    shows = es.shows (map shown core.sources);
+    quiet = λ held. refl;
+    apart = λ w. refl;
+    waits = ap waits_in (append-nil calls) ∙ es.waits;
+    keeps = λ k x there other. there;
+    rests = rests;
+    ticker = refl;
+    made = refl;
+    begun = none-begun core.begun rests.fits;
+    tags = refl;
+    turned = (refl, awake-ending v, es.ends);
+  },
+)
+
+pub turned-over : (wire key : ℕ) (r0 r1 : Option (List Event)) (core : Core) (c c' : Opening) (v : Verdict) (e : Ending) → Holds core key wire → IsBetweenCalls core →
+    Polls Opening StandsIn written_of wire c c' r0 r1 (step.Done v) → Leaves Opening StandsIn written_of rest_of c' (step.Done v) → e ≡ ending_of v → VisitPolls wire key r0 r1 core core c c' (poll_end.Over e)
+turned-over wire key r0 r1 core c c' v e holds rests polls leaves is =
+    subst (λ x. VisitPolls wire key r0 r1 core core c c' (poll_end.Over x)) (sym is) (ended-turn wire key r0 r1 core c c' v (polls.events ++ polls.final) holds rests (poll-ended wire r0 r1 c c' v polls leaves))
+
+-- ---- a turn that stops
+
+arms_quiet : (dir : Dir) (h : Held) (b : Side) → (held : List Held) → registry held (arms_told (arms_at dir h b)) ≡ held
+arms_quiet dir h Idle = λ held. arming-quiet (stopped_held dir h) held
+arms_quiet dir h Waits = λ held. refl
+arms_quiet dir h Reported = λ held. refl
+
+arms_apart : (dir : Dir) (h : Held) (w : ℕ) (b : Side) → part w (arms_told (arms_at dir h b)) ≡ []
+arms_apart dir h w Idle = arming-apart (stopped_held dir h) w
+arms_apart dir h w Waits = refl
+arms_apart dir h w Reported = refl
+
+arms_waits : (dir : Dir) (h : Held) (b : Side) → waits_in (arms_told (arms_at dir h b)) ≡ 0
+arms_waits dir h Idle = arming-waits (stopped_held dir h)
+arms_waits dir h Waits = refl
+arms_waits dir h Reported = refl
+
+side-stopped : (dir : Dir) (h : Held) → side_held dir (stopped_held dir h) ≡ stopped (side_held dir h)
+side-stopped Read h = refl
+side-stopped Write h = refl
+
+-- how the turn ends, by how the direction stood
+turn-cases : (dir : Dir) (c c' : Opening) (calls : List Event) (h : Held) (t : PollEnd) (b : Side) → t ≡ (if asks_again (arms_at dir h b) then poll_end.Again else poll_end.Asleep) →
+    c'.ended ≡ false → GoesOn c c' calls → PollEndsAs c c' calls (arms_at dir h b) (stopped_held dir h) t
+turn-cases dir c c' calls h t Idle is open_ goes =
+    let o : Option (List Event) = arms_at dir h Idle in subst (λ x. PollEndsAs c c' calls o (stopped_held dir h) x) (sym is) (refl, open_, goes)
+turn-cases dir c c' calls h t Waits is open_ goes =
+    let o : Option (List Event) = arms_at dir h Waits in subst (λ x. PollEndsAs c c' calls o (stopped_held dir h) x) (sym is) (refl, open_, goes)
+turn-cases dir c c' calls h t Reported is open_ goes =
+    let o : Option (List Event) = arms_at dir h Reported in subst (λ x. PollEndsAs c c' calls o (stopped_held dir h) x) (sym is) (refl, open_, goes)
+
+stopped-turn : (wire key : ℕ) (dir : Dir) (r0 r1 r2 : Option (List Event)) (old new : Core) (c c' : Opening) (again : Bool) (t : PollEnd) (calls : List Event) (h : Held) →
+    StoppedBy wire dir r0 r1 c c' calls → c'.ended ≡ false → NotReadyNoted wire key dir r1 r2 old new again h → t ≡ (if again then poll_end.Again else poll_end.Asleep) → VisitPolls wire key r0 r2 old new c c' t
+stopped-turn wire key dir r0 r1 r2 old new c c' again t calls h es open_ r is =
+    let o : Option (List Event) = arms_at dir h (side_held dir h) in (
+      h,
+      stopped_held dir h,
+      calls,
+      o,
+      record {
+        was = r.was;
+        wired = r.wired;
+        now = r.now;
+        wired' = stopped-wire dir h ∙ r.wired;
+        gained = r.gained ∙ (ap (λ x. told x (arms_told o)) es.gained ∙ told-told r0 calls (arms_told o));
+        own = es.own;
+        asked = es.asked h;
+        shows = es.shows (map shown old.sources) ∙ sym r.shows;
+        quiet = arms_quiet dir h (side_held dir h);
+        apart = λ w. arms_apart dir h w (side_held dir h);
+        waits = no-waits-append calls (arms_told o) es.waits (arms_waits dir h (side_held dir h));
+        keeps = λ k x there other. ap (λ y. held_at y k) r.shows ∙ noted-keeps wire dir (map shown old.sources) k x there other;
+        rests = r.rests;
+        ticker = r.ticker;
+        made = r.made;
+        begun = r.begun;
+        tags = r.tags;
+        turned = turn-cases dir c c' calls h t (side_held dir h) (is ∙ ap (λ x. if x then poll_end.Again else poll_end.Asleep) r.again_so) open_ es.goes;
+      },
+    )
+
+pub turned-stop : (wire key : ℕ) (dir : Dir) (r0 r1 r2 : Option (List Event)) (old new : Core) (c c' : Opening) (again : Bool) (t : PollEnd) →
+    Polls Opening StandsIn written_of wire c c' r0 r1 (stop_step dir) → Leaves Opening StandsIn written_of rest_of c' (stop_step dir) → c'.ended ≡ false →
+    (h : Held) × NotReadyNoted wire key dir r1 r2 old new again h → t ≡ (if again then poll_end.Again else poll_end.Asleep) → VisitPolls wire key r0 r2 old new c c' t
+turned-stop wire key dir r0 r1 r2 old new c c' again t polls leaves open_ (h, r) is =
+    stopped-turn wire key dir r0 r1 r2 old new c c' again t (polls.events ++ polls.final) h (poll-stopped wire r0 r1 c c' dir polls leaves) open_ r is
+
+-- a stop that asks again leaves less to ask
+onward_go : (dir : Dir) (h : Held) (b : Side) → side_held dir h ≡ b → OnAgain (may_ask (Some (stopped_held dir h))) (may_ask (Some h)) (if asks_again (arms_at dir h b) then poll_end.Again else poll_end.Asleep)
+onward_go dir h Idle e = tt {0}
+onward_go dir h Waits e = tt {0}
+onward_go Read h Reported e = rw e (omega arith)
+onward_go Write h Reported e = rw e (omega arith)
+
+pub readied-onward : (wire key : ℕ) (dir : Dir) (r1 r2 : Option (List Event)) (old new : Core) (again : Bool) (t : PollEnd) → (h : Held) × NotReadyNoted wire key dir r1 r2 old new again h → t ≡ (if again then poll_end.Again else poll_end.Asleep) →
+    OnAgain (may_ask (held_at (map shown new.sources) key)) (may_ask (held_at (map shown old.sources) key)) t
+readied-onward wire key dir r1 r2 old new again t (h, r) is = rw (r.now, r.was, is, r.again_so) (onward_go dir h (side_held dir h) refl)
+
+-- ---- one turn after another
+
+GoesOn-more : (c c1 c2 : Opening) (es es2 : List Event) → GoesOn c c1 es → GoesOn c1 c2 es2 → GoesOn c c2 (es ++ es2)
+GoesOn-more c c1 c2 es es2 first next = λ talk b stands.
+    let one = first talk b stands in
+    let two = next talk one.0 one.1.stands in (
+      two.0,
+      record {
+        stands = two.1.stands;
+        dir = two.1.dir;
+        through = λ paused p. goes-append (Some (stands_at p talk b c paused)) es es2
+            ∙ (ap (λ t. goes_through t es2) (one.1.through paused p) ∙ two.1.through (Some one.1.dir) p);
+        waiting = two.1.waiting;
+      },
+    )
+
+TurnsTo-more : (c c1 c2 : Opening) (es es2 : List Event) (o : Option (List Event)) (h : Held) (t : PollEnd) → GoesOn c c1 es → PollEndsAs c1 c2 es2 o h t → PollEndsAs c c2 (es ++ es2) o h t
+TurnsTo-more c c1 c2 es es2 o h (poll_end.Over e) goes (none, awake, ends) = (
+  none,
+  awake,
+  λ talk b paused p late stands.
+      let one = goes talk b stands in
+      ap (option_and_then (outcome_of late)) (goes-append (Some (stands_at p talk b c paused)) es es2 ∙ ap (λ t. goes_through t es2) (one.1.through paused p))
+      ∙ ends talk one.0 (Some one.1.dir) p late one.1.stands,
+)
+TurnsTo-more c c1 c2 es es2 o h poll_end.Again goes (none, open_, more) = (none, open_, GoesOn-more c c1 c2 es es2 goes more)
+TurnsTo-more c c1 c2 es es2 o h poll_end.Asleep goes (some, open_, more) = (some, open_, GoesOn-more c c1 c2 es es2 goes more)
+
+assoc_arms : (es es2 ms : List Event) → (es ++ []) ++ (es2 ++ ms) ≡ (es ++ es2) ++ ms
+assoc_arms es es2 ms = ap (λ x. x ++ (es2 ++ ms)) (append-nil es) ∙ sym (append_assoc es es2 ms)
+
+pub turns-more : (wire key : ℕ) (r0 r1 r2 : Option (List Event)) (old mid new : Core) (c c1 c2 : Opening) (t : PollEnd) →
+    VisitPolls wire key r0 r1 old mid c c1 poll_end.Again → VisitPolls wire key r1 r2 mid new c1 c2 t → VisitPolls wire key r0 r2 old new c c2 t
+turns-more wire key r0 r1 r2 old mid new c c1 c2 t (h, h', es, o, a) (k, k', es2, o2, b) =
+    let e : Some k ≡ Some h' = sym b.was ∙ a.now in
+    let same : k ≡ h' = cc in
+    let none : o ≡ None = a.turned.0 in
+    let goes : GoesOn c c1 es = a.turned.2 in
+    let still : waits_in es ≡ 0 = ap waits_in (sym (append-nil es)) ∙ (ap (λ x. waits_in (es ++ arms_told x)) (sym none) ∙ a.waits) in (
+      h,
+      k',
+      es ++ es2,
+      o2,
+      record {
+        was = a.was;
+        wired = a.wired;
+        now = b.now;
+        wired' = b.wired';
+        gained = b.gained ∙ (ap (λ x. told x (es2 ++ arms_told o2)) (a.gained ∙ ap (λ y. told r0 (es ++ arms_told y)) none) ∙ (told-told r0 (es ++ []) (es2 ++ arms_told o2) ∙ ap (told r0) (assoc_arms es es2 (arms_told o2))));
+        own = λ talk heard stands. let one = goes talk heard stands in AreCalls-append wire es es2 (a.own talk heard stands) (b.own talk one.0 one.1.stands);
+        asked = asks-append (Some (begins h)) es es2 ∙ (ap (λ x. asks x es2) a.asked ∙ (ap (λ y. asks (Some (record { held = h'; over = y })) es2) none ∙ (ap (λ y. asks (Some (begins y)) es2) (sym same) ∙ b.asked)));
+        shows = registry-append (map shown old.sources) es es2 ∙ (ap (λ x. registry x es2) a.shows ∙ b.shows);
+        quiet = b.quiet;
+        apart = b.apart;
+        waits = ap waits_in (append_assoc es es2 (arms_told o2)) ∙ no-waits-append es (es2 ++ arms_told o2) still b.waits;
+        keeps = λ k x there other. b.keeps k x (a.keeps k x there other) other;
+        rests = b.rests;
+        ticker = b.ticker ∙ a.ticker;
+        made = b.made ∙ a.made;
+        begun = more-begun old.begun mid.begun new.begun (length (arms_told o2)) (a.begun ∙ ap (λ y. after_begun old.begun (length (arms_told y))) none) b.begun;
+        tags = b.tags ∙ a.tags;
+        turned = TurnsTo-more c c1 c2 es es2 o2 k' t goes b.turned;
+      },
+    )
+
+pub keeps-turns : (expected : Tags) (wire key : ℕ) (r0 r1 r2 : Option (List Event)) (old mid new : Core) (c c' : Opening) (t : PollEnd) →
+    VisitPolls wire key r0 r1 old mid c c' t → KeepsCall expected r1 r2 mid new → KeepsCall expected r0 r2 old new
+keeps-turns expected wire key r0 r1 r2 old mid new c c' t (h, h', es, o, a) kept = keeps-after expected r0 r1 r2 old mid new (es ++ arms_told o) a.gained a.waits a.ticker a.made kept
+
+-- some turns that each asked again, or none so far
+abbrev pub Turning : ℕ → ℕ → Option (List Event) → Option (List Event) → Core → Core → Opening → Opening → Type 0
+Turning wire key r0 r1 old new c c' = ((r1 ≡ r0) × (new ≡ old) × (c' ≡ c)) ⊎ VisitPolls wire key r0 r1 old new c c' poll_end.Again
+
+pub turning-more : (wire key : ℕ) (r0 r1 r2 : Option (List Event)) (old mid new : Core) (c c1 c2 : Opening) (t : PollEnd) →
+    Turning wire key r0 r1 old mid c c1 → VisitPolls wire key r1 r2 mid new c1 c2 t → VisitPolls wire key r0 r2 old new c c2 t
+turning-more wire key r0 r1 r2 old mid new c c1 c2 t (inl (r, core, client)) turns =
+    subst (λ x. VisitPolls wire key r0 r2 x new c c2 t) core (subst (λ x. VisitPolls wire key x r2 mid new c c2 t) r (subst (λ x. VisitPolls wire key r1 r2 mid new x c2 t) client turns))
+turning-more wire key r0 r1 r2 old mid new c c1 c2 t (inr first) turns = turns-more wire key r0 r1 r2 old mid new c c1 c2 t first turns
+
+pub turning-keeps : (wire key : ℕ) (r0 r1 r2 : Option (List Event)) (old mid new : Core) (c c1 : Opening) → Turning wire key r0 r1 old mid c c1 → KeepsCall (tags mid.sources) r1 r2 mid new → KeepsCall (tags old.sources) r0 r2 old new
+turning-keeps wire key r0 r1 r2 old mid new c c1 (inl (r, core, client)) kept =
+    subst (λ x. KeepsCall (tags x.sources) r0 r2 x new) core (subst (λ x. KeepsCall (tags mid.sources) x r2 mid new) r kept)
+turning-keeps wire key r0 r1 r2 old mid new c c1 (inr (h, h', es, o, a)) kept =
+    let kept' : KeepsCall (tags old.sources) r1 r2 mid new = subst (λ x. KeepsCall x r1 r2 mid new) a.tags kept in
+    keeps-turns (tags old.sources) wire key r0 r1 r2 old mid new c c1 poll_end.Again (h, h', es, o, a) kept'
+
+pub turning-holds : (wire key : ℕ) (r0 r1 : Option (List Event)) (old mid : Core) (c c1 : Opening) → Holds old key wire → Turning wire key r0 r1 old mid c c1 → Holds mid key wire
+turning-holds wire key r0 r1 old mid c c1 holds (inl (r, core, client)) = subst (λ x. Holds x key wire) (sym core) holds
+turning-holds wire key r0 r1 old mid c c1 holds (inr (h, h', es, o, a)) = (h', a.now, a.wired')
+
+pub turning-rests : (wire key : ℕ) (r0 r1 : Option (List Event)) (old mid : Core) (c c1 : Opening) → IsBetweenCalls old → Turning wire key r0 r1 old mid c c1 → IsBetweenCalls mid
+turning-rests wire key r0 r1 old mid c c1 rests (inl (r, core, client)) = subst IsBetweenCalls (sym core) rests
+turning-rests wire key r0 r1 old mid c c1 rests (inr (h, h', es, o, a)) = a.rests
+
+pub turning-open : (wire key : ℕ) (r0 r1 : Option (List Event)) (old mid : Core) (c c1 : Opening) → c.ended ≡ false → Turning wire key r0 r1 old mid c c1 → c1.ended ≡ false
+turning-open wire key r0 r1 old mid c c1 open_ (inl (r, core, client)) = ap (λ x. x.ended) client ∙ open_
+turning-open wire key r0 r1 old mid c c1 open_ (inr (h, h', es, o, a)) = a.turned.1

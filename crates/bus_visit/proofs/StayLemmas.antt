@@ -1,0 +1,174 @@
+-- The end of a visit: a session that sleeps, or whose source is taken out.
+use Rattle.std.proofs.Common.{◌≡◌, ℕ, Bool, true, false, ◌==◌, List, [], ◌∷◌, ◌++◌, map, Option, Some, None, Result, Ok, Err, refl, sym, ◌∙◌, ap, subst}
+use Rattle.std.proofs.lemmas.List.{append-nil}
+use Rattle.react_core.specs.Told.{told, told-told, told-nothing}
+use Rattle.react_core.specs.Core.{Core, HasSource, removed}
+use Rattle.react_core.specs.Causes.{RemoveTold}
+use Rattle.react_core.specs.Sources.{source_of, without}
+use Rattle.react_core.specs.Places.{Source}
+use Rattle.react_core.specs.declared.reactor.ReactError.{ReactError}
+use Rattle.react_core.specs.declared.reactor.ReactError.TheVariants as react_error
+use Rattle.react_core.specs.declared.outside.Event.{Event}
+use Rattle.react_core.specs.declared.outside.Event.TheVariants as event
+use Rattle.bus_opening.specs.Openings.{Opening}
+use Rattle.bus_session.specs.declared.ended.Ending.{Ending}
+use Rattle.bus_session.specs.declared.ended.Ended.{Ended}
+use Rattle.bus_visit.specs.declared.visiting.PollEnd.{PollEnd}
+use Rattle.bus_visit.specs.declared.visiting.PollEnd.TheVariants as poll_end
+use Rattle.bus_visit.specs.declared.visiting.Slot.TheVariants as slot
+use Rattle.bus_visit.specs.Registry.{Held, held_at, registry, without_held}
+use Rattle.bus_visit.specs.Counts.{waits_in}
+use Rattle.bus_visit.specs.Shown.{IsBetweenCalls, shown, tags, tag_at, without_tag, AllSane, Single}
+use Rattle.bus_visit.specs.Visited.{KeepsCall, VisitPolls, MakesRegisteredVisit}
+use Rattle.bus_visit.specs.Noted.{Holds, arms_told}
+use Rattle.bus_visit.specs.laws.Records.{registry-append, waits_in-append}
+use Rattle.bus_visit.specs.laws.Sources.{without-shown}
+use Rattle.bus_visit.proofs.NotReadyNotes.{held-source}
+use Rattle.bus_visit.proofs.OtherWiresStay.{without-keeps, two-keys}
+use Rattle.bus_visit.specs.laws.Tags.{tags-without, tag-has_source, held-tag, distinct-single, single-distinct, single-without}
+use Rattle.bus_visit.proofs.PollInVisit.{keeps-after}
+
+-- ---- a source is taken out
+
+-- a removal tells of its Delete at most
+pub removed-told : {T : Type 0} (found : Option Source) (key : ℕ) (r : Result T ReactError) (before after : Option (List Event)) → RemoveTold found key r before after →
+    (more : List Event) × (after ≡ told before more) × (waits_in more ≡ 0)
+removed-told None key r before after h = absurd h
+removed-told (Some s) key (Ok v) before after h = (event.Delete s.wire key true ∷ [], h, refl)
+removed-told (Some s) key (Err react_error.Poller) before after h = (event.Delete s.wire key false ∷ [], h, refl)
+removed-told (Some s) key (Err react_error.OutOfMemory) before after h = ([], h ∙ told-nothing before, refl)
+removed-told (Some s) key (Err (react_error.Exhausted counter value)) before after h = absurd h
+
+sane_without_go : (r l : ℕ) (x : ℕ × Source) (sources : List (ℕ × Source)) (key : ℕ) (b : Bool) → (x.0 == key) ≡ b → AllSane r l (x ∷ sources) → AllSane r l (without sources key) → AllSane r l (without (x ∷ sources) key)
+sane_without_go r l x sources key true e sane ih = rw e sane.1
+sane_without_go r l x sources key false e sane ih = rw e (sane.0, ih)
+
+pub sane-without : (r l : ℕ) (sources : List (ℕ × Source)) (key : ℕ) → AllSane r l sources → AllSane r l (without sources key)
+sane-without r l [] key sane = tt {0}
+sane-without r l (x ∷ sources) key sane = sane_without_go r l x sources key (x.0 == key) refl sane (sane-without r l sources key sane.1)
+
+pub rests-removed : (core : Core) (key : ℕ) → IsBetweenCalls core → IsBetweenCalls (removed core key)
+rests-removed core key rests = record {
+  sane = sane-without core.ticker core.ticker core.sources key rests.sane;
+  distinct = single-distinct (without core.sources key) (subst Single (sym (tags-without core.sources key)) (single-without (tags core.sources) key (distinct-single core.sources rests.distinct)));
+  idle = rests.idle;
+  fits = rests.fits;
+}
+
+-- the key's source is still there where no tag changed
+pub kept-source : (old mid : Core) (key wire : ℕ) → Holds old key wire → tags mid.sources ≡ tags old.sources → HasSource mid key
+kept-source old mid key wire (h, at, own) same = tag-has_source mid.sources key h.wire (ap (λ ts. tag_at ts key) same ∙ held-tag old.sources key h at)
+
+-- what was told so far, and a removal
+pub keeps-removed : {T : Type 0} (key : ℕ) (r : Result T ReactError) (r0 r1 r2 : Option (List Event)) (old mid new : Core) → KeepsCall (tags old.sources) r0 r1 old mid → new ≡ removed mid key →
+    RemoveTold (source_of mid.sources key) key r r1 r2 → KeepsCall (without_tag (tags old.sources) key) r0 r2 old new
+keeps-removed key r r0 r1 r2 old mid new (first, k) is gone =
+    let more = removed-told (source_of mid.sources key) key r r1 r2 gone in
+    keeps-after (without_tag (tags old.sources) key) r0 r1 r2 old mid new first k.gained k.waits k.ticker k.made (
+      more.0,
+      record {
+        gained = more.1;
+        waits = more.2;
+        ticker = ap (λ x. x.ticker) is;
+        made = ap (λ x. x.made) is;
+        tags = ap (λ x. tags x.sources) is ∙ (tags-without mid.sources key ∙ ap (λ ts. without_tag ts key) k.tags);
+        closed = ap (λ x. x.hands) is ∙ k.closed;
+      },
+    )
+
+pub kept-turns : (wire key : ℕ) (r0 r1 : Option (List Event)) (old mid : Core) (c c' : Opening) (t : PollEnd) → VisitPolls wire key r0 r1 old mid c c' t → KeepsCall (tags old.sources) r0 r1 old mid
+kept-turns wire key r0 r1 old mid c c' t (h, h', es, o, a) = (
+  es ++ arms_told o,
+  record {
+    gained = a.gained;
+    waits = a.waits;
+    ticker = a.ticker;
+    made = a.made;
+    tags = a.tags;
+    closed = a.rests.idle;
+  },
+)
+
+pub turns-source : (wire key : ℕ) (r0 r1 : Option (List Event)) (old mid : Core) (c c' : Opening) (t : PollEnd) → Holds old key wire → VisitPolls wire key r0 r1 old mid c c' t → HasSource mid key
+turns-source wire key r0 r1 old mid c c' t holds (h, h', es, o, a) = kept-source old mid key wire holds a.tags
+
+-- ---- what a visit comes to
+
+pub stays-asleep : (wire key : ℕ) (r0 r1 : Option (List Event)) (old new : Core) (c c' : Opening) → VisitPolls wire key r0 r1 old new c c' poll_end.Asleep →
+    MakesRegisteredVisit wire key r0 r1 old new c (slot.Asleep (record { key = key; client = c' }))
+stays-asleep wire key r0 r1 old new c c' (h, h', es, o, a) = (
+  h,
+  h',
+  es,
+  o,
+  record {
+    was = a.was;
+    wired = a.wired;
+    wired' = a.wired';
+    gained = a.gained;
+    own = a.own;
+    asked = a.asked;
+    shows = registry-append (map shown old.sources) es (arms_told o) ∙ (a.quiet (registry (map shown old.sources) es) ∙ a.shows);
+    apart = a.apart;
+    waits = a.waits;
+    keeps = a.keeps;
+    rests = a.rests;
+    ticker = a.ticker;
+    made = a.made;
+    begun = a.begun;
+    tags = a.tags;
+    stays = record { over = a.turned.0; at = refl; open_ = a.turned.1; goes = a.turned.2; held = a.now };
+  },
+)
+
+removed-at : {T : Type 0} (wire key : ℕ) (sources : List (ℕ × Source)) (h : Held) (v : T) (before after : Option (List Event)) → h.wire ≡ wire → held_at (map shown sources) key ≡ Some h →
+    RemoveTold (source_of sources key) key (Ok v) before after → after ≡ told before (event.Delete wire key true ∷ [])
+removed-at wire key sources h v before after own at gone =
+    let found = held-source sources key h at in
+    let told-so : after ≡ told before (event.Delete found.0.wire key true ∷ []) = subst (λ x. RemoveTold x key (Ok v) before after) found.1 gone in
+    told-so ∙ ap (λ w. told before (event.Delete w key true ∷ [])) (ap (λ y. y.wire) found.2 ∙ own)
+
+over-nil : (es tail : List Event) (o : Option (List Event)) → o ≡ None → (es ++ arms_told o) ++ tail ≡ es ++ tail
+over-nil es tail o e = ap (λ x. (es ++ arms_told x) ++ tail) e ∙ ap (λ x. x ++ tail) (append-nil es)
+
+no-tail : (es : List Event) (o : Option (List Event)) → o ≡ None → waits_in (es ++ arms_told o) ≡ 0 → waits_in es ≡ 0
+no-tail es o e none = ap waits_in (sym (append-nil es)) ∙ (ap (λ x. waits_in (es ++ arms_told x)) (sym e) ∙ none)
+
+stays-over : (wire key : ℕ) (r0 r1 r2 : Option (List Event)) (old mid : Core) (c c' : Opening) (e : Ending) →
+    VisitPolls wire key r0 r1 old mid c c' (poll_end.Over e) → r2 ≡ told r1 (event.Delete wire key true ∷ []) →
+    MakesRegisteredVisit wire key r0 r2 old (removed mid key) c (slot.Ended (record { ending = e; written = c'.written; leftover = c'.rest; wire = wire; moment = None }))
+stays-over wire key r0 r1 r2 old mid c c' e (h, h', es, o, a) gone =
+    let tail : List Event = event.Delete wire key true ∷ [] in
+    let shows' : map shown (without mid.sources key) ≡ without_held (map shown mid.sources) key = without-shown mid.sources key in (
+      h,
+      h',
+      es,
+      o,
+      record {
+        was = a.was;
+        wired = a.wired;
+        wired' = a.wired';
+        gained = gone ∙ (ap (λ x. told x tail) a.gained ∙ (told-told r0 (es ++ arms_told o) tail ∙ ap (told r0) (over-nil es tail o a.turned.0)));
+        own = a.own;
+        asked = a.asked;
+        shows = registry-append (map shown old.sources) es tail ∙ (ap (λ x. without_held x key) a.shows ∙ sym shows');
+        apart = λ w. refl;
+        waits = waits_in-append es tail ∙ rw (no-tail es o a.turned.0 a.waits) refl;
+        keeps = λ k x there other. ap (λ y. held_at y k) shows'
+            ∙ without-keeps (map shown mid.sources) key k x (a.keeps k x there other) (two-keys (map shown mid.sources) key k x h' wire a.now a.wired' (a.keeps k x there other) other);
+        rests = rests-removed mid key a.rests;
+        ticker = a.ticker;
+        made = a.made;
+        begun = a.begun;
+        tags = tags-without mid.sources key ∙ ap (λ ts. without_tag ts key) a.tags;
+        stays = record { over = a.turned.0; wired = refl; unread = refl; awake = a.turned.1; ends = a.turned.2 };
+      },
+    )
+
+pub stays-ended : {T : Type 0} (wire key : ℕ) (r0 r1 r2 : Option (List Event)) (old mid new : Core) (c c' : Opening) (e : Ending) (v : T) (ended : Ended) →
+    VisitPolls wire key r0 r1 old mid c c' (poll_end.Over e) → new ≡ removed mid key → RemoveTold (source_of mid.sources key) key (Ok v) r1 r2 →
+    ended ≡ record { ending = e; written = c'.written; leftover = c'.rest; wire = wire; moment = None } → MakesRegisteredVisit wire key r0 r2 old new c (slot.Ended ended)
+stays-ended wire key r0 r1 r2 old mid new c c' e v ended (h, h', es, o, a) is gone value =
+    let gone' : r2 ≡ told r1 (event.Delete wire key true ∷ []) = removed-at wire key mid.sources h' v r1 r2 a.wired' a.now gone in
+    subst (λ x. MakesRegisteredVisit wire key r0 r2 old x c (slot.Ended ended)) (sym is) (subst (λ x. MakesRegisteredVisit wire key r0 r2 old (removed mid key) c (slot.Ended x)) (sym value)
+    (stays-over wire key r0 r1 r2 old mid c c' e (h, h', es, o, a) gone'))

@@ -1,0 +1,56 @@
+use Rattle.std.proofs.Common.{refl, ap}
+use Rattle.bus_session.specs.Dialling.{conversation}
+use Rattle.bus_visit.specs.Dialled.{as_opened}
+use Rattle.bus_visit.proofs.PollInVisit.{on-err}
+use Rattle.bus_visit.proofs.FirstVisit.{if-ok, refused-by, insert-keeps, inserted-holds, inserted-rests, inserted-keeps, inserted-tags, inserted-registers}
+use Rattle.react_core.specs.Outer.{keeps-same, poller-in-visit}
+use Rattle.react_core.specs.Outer as part
+use Rattle.bus_visit.proofs.VisitFrames.{keeps-registered, slot-after}
+use Rattle.bus_visit.proofs.visiting.visit_opened.Goals as goal
+
+pub returns-in_err-key-clause-refused : goal.returns-in_err-key-clause-refused
+returns-in_err-key-clause-refused g c =
+    on-err c.from_residual-in_err-key.result
+    (insert-keeps c.args.wire _ _ _ c.args.reactor.now.core c.insert_io.new.self.core c.requires.rests c.in_err-key.ensures.told (ap (λ r. r.core) c.in_err-key.ensures.err))
+
+pub visit-requires-clause-holds : goal.visit-requires-clause-holds
+visit-requires-clause-holds g c =
+    inserted-holds c.args.reactor.now.core c.insert_io.new.self.core c.args.wire c.in_ok-key.key c.in_ok-key.ensures.free (ap (λ r. r.core) c.in_ok-key.ensures.inserted)
+
+pub visit-requires-clause-rests : goal.visit-requires-clause-rests
+visit-requires-clause-rests g c =
+    inserted-rests c.args.reactor.now.core c.insert_io.new.self.core c.args.wire c.in_ok-key.key c.in_ok-key.ensures.free (ap (λ r. r.core) c.in_ok-key.ensures.inserted) c.requires.new c.requires.rests
+
+pub returns-clause-visited : goal.returns-clause-visited
+returns-clause-visited g c =
+    if-ok c.visit.result
+    (λ slot stays.
+    inserted-registers c.args.reactor.now.core c.insert_io.new.self.core c.args.wire c.in_ok-key.key c.in_ok-key.ensures.free (ap (λ r. r.core) c.in_ok-key.ensures.inserted) c.args.session.now (as_opened c.args.opened.now)
+    _ _ _ c.visit.new.reactor.core c.in_ok-client.client slot (conversation c.args.session.now.party (as_opened c.args.opened.now), refl, c.in_ok-client.ensures.stands) c.in_ok-client.ensures.written c.in_ok-key.ensures.told stays)
+    c.visit.ensures.visited
+
+pub returns-clause-tags : goal.returns-clause-tags
+returns-clause-tags g c =
+    if-ok c.visit.result
+    (λ slot stays.
+    inserted-tags c.args.reactor.now.core c.insert_io.new.self.core c.args.wire c.in_ok-key.key c.in_ok-key.ensures.free (ap (λ r. r.core) c.in_ok-key.ensures.inserted) _ _ c.visit.new.reactor.core c.in_ok-client.client slot c.requires.new stays)
+    c.visit.ensures.visited
+
+pub returns-clause-refused : goal.returns-clause-refused
+returns-clause-refused g c =
+    refused-by c.visit.result
+    (λ keeps.
+    inserted-keeps c.args.reactor.now.core c.insert_io.new.self.core c.args.wire c.in_ok-key.key c.in_ok-key.ensures.free (ap (λ r. r.core) c.in_ok-key.ensures.inserted) _ _ _ c.visit.new.reactor.core c.in_ok-key.ensures.told keeps)
+    c.visit.ensures.refused
+
+pub returns-in_err-client-clause-keeps : goal.returns-in_err-client-clause-keeps
+returns-in_err-client-clause-keeps g c = keeps-same (part.Visit c.args.wire) _
+
+pub returns-in_err-key-clause-keeps : goal.returns-in_err-key-clause-keeps
+returns-in_err-key-clause-keeps g c = poller-in-visit c.args.wire _ _ c.insert_io.ensures.keeps
+
+pub returns-clause-keeps : goal.returns-clause-keeps
+returns-clause-keeps g c = keeps-registered c.args.wire _ _ _ c.insert_io.ensures.keeps c.visit.ensures.keeps
+
+pub returns-clause-counted : goal.returns-clause-counted
+returns-clause-counted g c = if-ok c.visit.result (λ slot counted. slot-after c.args.wire slot _ _ _ (poller-in-visit c.args.wire _ _ c.insert_io.ensures.keeps) counted) c.visit.ensures.counted

@@ -1,0 +1,12 @@
+pub mod Registry
+pub mod Asking
+pub mod Calls
+pub mod Counts
+pub mod Conversations
+pub mod Shown
+pub mod Faults
+pub mod Dialled
+pub mod Conversed
+pub mod Noted
+pub mod Visited
+pub mod laws
