@@ -22,7 +22,7 @@ use bus_address::Guid;
 use bus_opening::{Handshake, Step, Verdict};
 use bus_session::{Ended, Ending, Session};
 use futures::task::Poll;
-use react_core::outside::{Bytes, Dialer, Registrar, Wakes, Wire};
+use react_core::outside::{Bytes, Dialer, OutOfMemory, Registrar, Wakes, Wire};
 use react_core::reactor::{Dir, ReactError, Reactor};
 use std::alloc::Global;
 
