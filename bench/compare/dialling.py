@@ -28,18 +28,12 @@ def printed(data):
     return data.hex() if data else "."
 
 
-def question_text(question):
-    """A question as the record has it."""
+def spelled(parts):
+    """A question or an answer as the script and the record have it."""
     words = []
-    for part in question:
-        words += [printed(one) if isinstance(one, bytes) else "-" if one is None else str(one)
-                  for one in (part if isinstance(part, list) else [part])]
-    return " ".join(words)
-
-
-def answer_text(answer):
-    """An answer as the script and the record have it."""
-    return question_text(answer)
+    for part in parts:
+        words += part if isinstance(part, list) else [part]
+    return " ".join(printed(word) if isinstance(word, bytes) else "-" if word is None else str(word) for word in words)
 
 
 def fitting(question, answer):

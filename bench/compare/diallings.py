@@ -129,7 +129,7 @@ def answers(rng, session):
         found.pop(rng.randrange(len(found)))
     if rng.random() < 0.08:
         found.insert(rng.randrange(len(found) + 1), answer(rng, rng.choice([("tcp",), ("nonce",), ("lookup",), ("ibus",)])))
-    texts = [dialling.answer_text(one) for one in found]
+    texts = [dialling.spelled(one) for one in found]
     return [upper(text) if rng.random() < 0.1 else text for text in texts]
 
 

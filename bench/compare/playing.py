@@ -62,8 +62,8 @@ class Player:
         """The next answer to a session's dialling."""
         answers = self.script.dials.get(wire, [])
         answer = answers.pop(0) if answers else dialling.FAULT
-        given = dialling.answer_text(dialling.fitting(question, answer))
-        self.events.append(f"dial {wire} {dialling.question_text(question)} = {given}")
+        given = dialling.spelled(dialling.fitting(question, answer))
+        self.events.append(f"dial {wire} {dialling.spelled(question)} = {given}")
         return answer
 
     def first_visit(self, wire):
