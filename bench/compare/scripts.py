@@ -1,9 +1,9 @@
 """Random scripts: right ones, with every kind of line that is built, and ones that are spoilt in a line or two."""
 
-import diallings
+import addresses
 import reading
 
-GUID = diallings.GUID
+GUID = addresses.GUID
 OK = f"OK {GUID}\r\n".encode()
 
 # lines that are put in anywhere: of other forms, at wrong places, out of range, or of no form
@@ -109,7 +109,7 @@ def session(rng):
         server = reading.Server(GUID, rng.choice(["EXTERNAL", "EXTERNAL", "ANONYMOUS"]), permitted)
         return f"server {GUID} {server.mechanism} {'-' if permitted is None else permitted} -", server
     parts = [rng.choice(["-", "-", "EXTERNAL", "ANONYMOUS"]), str(rng.choice([0, 7, 1000, 4294967295])),
-             rng.choice(["-", "-", ".", "6c01"]), rng.choice("yn"), "-", diallings.clients_address(rng)]
+             rng.choice(["-", "-", ".", "6c01"]), rng.choice("yn"), "-", addresses.clients_address(rng)]
     return f"client {' '.join(parts)}", reading.Client(parts[0], int(parts[1]), b"", parts[3] == "y", parts[5])
 
 
@@ -119,7 +119,7 @@ def queues(rng, sessions):
     found = []
     for number, one in enumerate(sessions):
         if rng.random() < 0.95:
-            found.append([f"dial {number} {answer}" for answer in diallings.answers(rng, one)])
+            found.append([f"dial {number} {answer}" for answer in addresses.answers(rng, one)])
         if rng.random() < 0.9:
             server = isinstance(one, reading.Server)
             found.append([f"recv {number} {answer}" for answer in reads(rng, server)])
