@@ -1,5 +1,6 @@
 """Plays random scripts by the program and by a plain reading of the script's rules, which shares nothing with it, and prints each
-script on which the two differ. It shows whether the definitions mean what the formats say. No test, and no gate.
+script on which the two differ. It shows whether the definitions mean what the formats say. At the end it prints how often each
+kind of address, each question with its answer and each ending came. No test, and no gate.
 
 Usage: python3 bench/compare [PROGRAM [COUNT [SEED]]]; without a program, crates/bus_open/out/bus_open, which `rt run` leaves there."""
 import collections
@@ -11,13 +12,18 @@ import sys
 import playing
 import reading
 import scripts
+import tallies
 
 
-def expected(data):
+def expected(data, tally):
+    """The status and the text that a script gives, which are counted."""
     try:
-        return playing.play(reading.read(data))
+        script = reading.read(data)
     except reading.Refused as refusal:
         return 2, f"refused {refusal.line} {refusal.reason}\n"
+    status, text = playing.play(script)
+    tally.count(script.sessions, text)
+    return status, text
 
 
 def main():
@@ -26,15 +32,18 @@ def main():
     count = int(sys.argv[2]) if len(sys.argv) > 2 else 1000
     seed = int(sys.argv[3]) if len(sys.argv) > 3 else 1
     statuses = collections.Counter()
+    tally = tallies.Tallies()
     differing = 0
     for number in range(count):
         data = scripts.script(random.Random(f"{seed}:{number}"))
         run = subprocess.run([program, "play"], input=data, stdout=subprocess.PIPE)
-        status, text = expected(data)
+        status, text = expected(data, tally)
         statuses[status] += 1
         if (run.returncode, run.stdout) != (status, text.encode()):
             differing += 1
             print(f"script {number} of seed {seed}: status {run.returncode} and not {status}\n{data!r}")
+    for line in tally.lines():
+        print(line)
     shares = ", ".join(f"{amount} of status {status}" for status, amount in sorted(statuses.items()))
     print(f"{count} scripts ({shares}): {differing} differ")
     sys.exit(1 if differing else 0)

@@ -1,6 +1,7 @@
 """The two sides of a conversation: what each says after a line, and how it ends."""
 import re
 
+import grammars
 import reading
 
 MOST_LINE = 16384
@@ -46,15 +47,16 @@ def command_of(line):
 
 
 class ClientSide:
-    def __init__(self, client, passes):
+    def __init__(self, client, wire):
         self.client = client
-        self.passes = passes
+        self.passes = wire.passes
+        self.expected = grammars.address_of(client.address).guid
         self.ending = None
         self.guid = None
         self.step = self.first
-        shown = str(client.user).encode().hex() if client.mechanism != "ANONYMOUS" else b"zbus".hex()
-        mechanism = "ANONYMOUS" if client.mechanism == "ANONYMOUS" else "EXTERNAL"
-        self.pieces = [f"\0AUTH {mechanism} {shown}\r\n".encode()]
+        mechanism = client.mechanism if client.mechanism != "-" else "ANONYMOUS" if wire.tcp else "EXTERNAL"
+        shown = str(client.user).encode().hex() if mechanism == "EXTERNAL" else b"zbus".hex()
+        self.pieces = [wire.nonce] * (wire.nonce != b"") + [f"\0AUTH {mechanism} {shown}\r\n".encode()]
 
     def look(self, line, _):
         command = command_of(line)
@@ -67,7 +69,7 @@ class ClientSide:
         self.ending = f"open:{self.guid}:{flag}"
 
     def first(self, name, value):
-        if name != "OK":
+        if name != "OK" or (self.expected is not None and value != self.expected):
             self.ending = "handshake"
             return
         self.guid = value
@@ -98,9 +100,9 @@ class ClientSide:
 
 
 class ServerSide:
-    def __init__(self, server, passes):
+    def __init__(self, server, wire):
         self.server = server
-        self.passes = passes
+        self.passes = wire.passes
         self.ending = None
         self.flag = "n"
         self.pieces = []
@@ -173,8 +175,8 @@ class ServerSide:
 
 
 class Conversation:
-    def __init__(self, session, passes):
-        self.side = ClientSide(session, passes) if isinstance(session, reading.Client) else ServerSide(session, passes)
+    def __init__(self, session, wire):
+        self.side = ClientSide(session, wire) if isinstance(session, reading.Client) else ServerSide(session, wire)
         self.left = b""
         self.written = b""
         self.lines = 0

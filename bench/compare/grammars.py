@@ -95,16 +95,23 @@ def escaped(data):
     return "".join(chr(byte) if byte in PLAIN_BYTES else f"%{byte:02x}" for byte in data)
 
 
-def again(value):
-    """The escaped text of what this escaped value says."""
-    return escaped(unescaped(value))
+@dataclasses.dataclass
+class Address:
+    """What an address says: what it is printed with, in that order, and without its escapes."""
+    transport: str
+    options: dict
+    guid: str | None = None
+
+    def printed(self):
+        pairs = [f"{key}={escaped(value)}" for key, value in self.options.items()]
+        return f"{self.transport}:" + ",".join(pairs + ([f"guid={self.guid}"] if self.guid else []))
 
 
 def unix(options):
     found = [key for key in ("path", "abstract", "dir", "tmpdir") if key in options]
     if len(found) != 1:
         raise Refused("Keys")
-    return f"unix:{found[0]}={again(options[found[0]])}"
+    return Address("unix", {found[0]: unescaped(options[found[0]])})
 
 
 def host_of(options):
@@ -112,42 +119,44 @@ def host_of(options):
         raise Refused("Bind")
     if "host" not in options:
         raise Refused("MissingHost")
+    host = unescaped(options["host"])
     try:
-        return escaped(unescaped(options["host"]).decode("utf-8").encode())
+        host.decode("utf-8")
     except UnicodeDecodeError:
         raise Refused("HostText") from None
+    return host
 
 
 def tcp(transport, options):
-    host = host_of(options)
+    found = {"host": host_of(options)}
     if "port" not in options:
         raise Refused("MissingPort")
     if not PORT.fullmatch(options["port"]) or int(options["port"]) > 65535:
         raise Refused("BadPort")
-    if options.get("family", "ipv4") not in ("ipv4", "ipv6"):
-        raise Refused("BadFamily")
-    end = f"host={host},port={int(options['port'])}" + (f",family={options['family']}" if "family" in options else "")
+    found["port"] = str(int(options["port"])).encode()
+    if "family" in options:
+        if options["family"] not in ("ipv4", "ipv6"):
+            raise Refused("BadFamily")
+        found["family"] = options["family"].encode()
     if "noncefile" in options:
-        return f"nonce-tcp:noncefile={again(options['noncefile'])},{end}"
+        return Address("nonce-tcp", {"noncefile": unescaped(options["noncefile"])} | found)
     if transport == "nonce-tcp":
         raise Refused("MissingNonceFile")
-    return f"tcp:{end}"
+    return Address("tcp", found)
 
 
 def unixexec(options):
     if "path" not in options:
         raise Refused("MissingPath")
-    words = [f"path={again(options['path'])}"]
-    if "argv0" in options:
-        words.append(f"argv0={again(options['argv0'])}")
+    keys = ["path"] + ["argv0"] * ("argv0" in options)
     number = 1
     while f"argv{number}" in options:
-        words.append(f"argv{number}={again(options[f'argv{number}'])}")
+        keys.append(f"argv{number}")
         number += 1
-    return "unixexec:" + ",".join(words)
+    return Address("unixexec", {key: unescaped(options[key]) for key in keys})
 
 
-def transport_text(transport, options):
+def transport_of(transport, options):
     if transport == "unix":
         return unix(options)
     if transport in ("tcp", "nonce-tcp"):
@@ -155,22 +164,25 @@ def transport_text(transport, options):
     if transport == "unixexec":
         return unixexec(options)
     if transport == "ibus":
-        return "ibus:"
+        return Address("ibus", {})
     raise Refused("UnknownTransport")
 
 
-def address(text):
+def address_of(text):
     transport, colon, rest = text.partition(":")
     pairs = [PAIR.fullmatch(pair) for pair in rest.split(",")] if rest else []
     if not transport or not colon or None in pairs:
         raise Refused("Form")
     options = dict(pair.groups() for pair in pairs)
-    if "guid" not in options:
-        return f"ok {transport_text(transport, options)}"
-    if not GUID.fullmatch(options["guid"]):
+    if "guid" in options and not GUID.fullmatch(options["guid"]):
         raise Refused("BadGuid")
-    printed = transport_text(transport, options)
-    return f"ok {printed}{'' if printed.endswith(':') else ','}guid={options['guid'].lower()}"
+    found = transport_of(transport, options)
+    found.guid = options["guid"].lower() if "guid" in options else None
+    return found
+
+
+def address(text):
+    return f"ok {address_of(text).printed()}"
 
 
 def is_name(kind, text):

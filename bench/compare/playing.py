@@ -1,6 +1,6 @@
 """Plays a script: the sessions' visits, the rounds and the closing, and the printed text."""
 import conversing
-import reading
+import dialling
 
 MOST_READ = 1024
 MOST_REPORTS = 64
@@ -8,10 +8,6 @@ MOST_REPORTS = 64
 
 class PollerFailed(Exception):
     pass
-
-
-def printed(data):
-    return data.hex() if data else "."
 
 
 def directions(flags):
@@ -32,7 +28,7 @@ class Session:
 
     def line(self, wire):
         written, left = (self.conversation.written, self.conversation.left) if self.conversation else (b"", b"")
-        return f"session {wire} {self.ending} {printed(written)} {printed(left)} -"
+        return f"session {wire} {self.ending} {dialling.printed(written)} {dialling.printed(left)} -"
 
 
 class Player:
@@ -62,17 +58,22 @@ class Player:
         self.sessions[wire].ending = ending
         self.delete(wire)
 
+    def answer_to(self, wire, question):
+        """The next answer to a session's dialling."""
+        answers = self.script.dials.get(wire, [])
+        answer = answers.pop(0) if answers else dialling.FAULT
+        given = dialling.spelled(dialling.fitting(question, answer))
+        self.events.append(f"dial {wire} {dialling.spelled(question)} = {given}")
+        return answer
+
     def first_visit(self, wire):
         session = self.sessions[wire]
-        answers = self.script.dials.get(wire, [])
-        passes = answers.pop(0) if answers else None
-        asked = f"unix {printed(session.session.path)}" if isinstance(session.session, reading.Client) else "accept"
-        answer = "fault" if passes is None else f"open {'y' if passes else 'n'}"
-        self.events.append(f"dial {wire} {asked} = {answer}")
-        if passes is None:
-            session.ending = "connection"
+        try:
+            opened = dialling.dial(session.session, lambda question: self.answer_to(wire, question))
+        except dialling.Ended as ended:
+            session.ending = str(ended)
             return
-        session.conversation = conversing.Conversation(session.session, passes)
+        session.conversation = conversing.Conversation(session.session, opened)
         if self.free:
             session.key = self.free.pop()
         else:
@@ -103,9 +104,9 @@ class Player:
         if isinstance(answer, int):
             taken = min(answer, len(offered))
             self.sessions[wire].conversation.written += offered[:taken]
-            self.events.append(f"send {wire} {printed(offered)} took {taken}")
+            self.events.append(f"send {wire} {dialling.printed(offered)} took {taken}")
             return True
-        self.events.append(f"send {wire} {printed(offered)} {answer}")
+        self.events.append(f"send {wire} {dialling.printed(offered)} {answer}")
         return self.stopped(wire, "w", answer)
 
     def read(self, wire):
@@ -116,7 +117,7 @@ class Player:
             if len(answer) > MOST_READ:
                 answers.insert(0, answer[MOST_READ:])
             self.sessions[wire].conversation.left += answer[:MOST_READ]
-            self.events.append(f"recv {wire} {MOST_READ} bytes {printed(answer[:MOST_READ])}")
+            self.events.append(f"recv {wire} {MOST_READ} bytes {dialling.printed(answer[:MOST_READ])}")
             return True
         self.events.append(f"recv {wire} {MOST_READ} {answer}")
         return self.stopped(wire, "r", answer)

@@ -3,8 +3,6 @@ import dataclasses
 import re
 
 MOST_BYTES = 16777216
-PLAIN = "unix:path="
-PLAIN_BYTES = frozenset(b"-0123456789ABCDEFGHIJKLMNOPQRSTUVWXYZabcdefghijklmnopqrstuvwxyz_/.\\*")
 
 NUMBER = "0|[1-9][0-9]*"
 BYTES = r"\.|(?:[0-9a-fA-F]{2})+"
@@ -21,8 +19,8 @@ FORMS = [
                rf" (?P<deadline>-|(?P<u64>{NUMBER}))"),
     ("dial open", rf"dial (?P<u32>{NUMBER}) open (?P<flag>[yn])"),
     ("dial peers", rf"dial (?P<u32>{NUMBER}) peers(?P<peers>(?: {PEER})*)"),
-    ("dial nonce", rf"dial (?P<u32>{NUMBER}) nonce (?:{BYTES})"),
-    ("dial output", rf"dial (?P<u32>{NUMBER}) output [yn] (?:{BYTES})"),
+    ("dial nonce", rf"dial (?P<u32>{NUMBER}) nonce (?P<bytes>{BYTES})"),
+    ("dial output", rf"dial (?P<u32>{NUMBER}) output (?P<flag>[yn]) (?P<bytes>{BYTES})"),
     ("dial fault", rf"dial (?P<u32>{NUMBER}) fault"),
     ("recv bytes", rf"recv (?P<u32>{NUMBER}) bytes (?P<bytes>(?:[0-9a-fA-F]{{2}})+)"),
     ("recv end", rf"recv (?P<u32>{NUMBER}) end"),
@@ -39,7 +37,7 @@ FORMS = [
     ("wait fault", r"wait fault"),
 ]
 COMPILED = [(kind, re.compile(form, re.DOTALL)) for kind, form in FORMS]
-NOT_BUILT = {"start", "dial peers", "dial nonce", "dial output", "now", "notify"}
+NOT_BUILT = {"start", "now", "notify"}
 
 
 class Refused(Exception):
@@ -55,7 +53,7 @@ class Client:
     user: int
     hello: bytes
     flatpak: bool
-    path: bytes
+    address: str
 
 
 @dataclasses.dataclass
@@ -69,7 +67,7 @@ class Server:
 class Script:
     rounds: int = 0
     sessions: list = dataclasses.field(default_factory=list)
-    # the answers to each session's dialling (whether the wire passes descriptors, or None), reads and sends
+    # the answers to each session's dialling (what kind each is, and what it carries), reads and sends
     dials: dict = dataclasses.field(default_factory=dict)
     reads: dict = dataclasses.field(default_factory=dict)
     sends: dict = dataclasses.field(default_factory=dict)
@@ -104,13 +102,7 @@ def form_of(line):
 
 
 def is_built(kind, groups):
-    if kind == "client":
-        path = groups["address"].removeprefix(PLAIN).encode()
-        plain = groups["address"].startswith(PLAIN) and path and all(byte in PLAIN_BYTES for byte in path)
-        return bool(plain) and groups["deadline"] == "-"
-    if kind == "server":
-        return groups["deadline"] == "-"
-    return kind not in NOT_BUILT
+    return groups["deadline"] == "-" if kind in ("client", "server") else kind not in NOT_BUILT
 
 
 def place_of(kind):
@@ -132,18 +124,34 @@ def names_of(kind, groups):
     return [number for key, number, _, _ in reports_of(groups.get("reports") or "") if not key]
 
 
+def bytes_of(text):
+    return b"" if text in "-." else bytes.fromhex(text)
+
+
+def dial_answer(kind, groups):
+    """What kind a dial answer is, and what it carries."""
+    if kind == "dial open":
+        return "open", groups["flag"]
+    if kind == "dial peers":
+        return "peers", groups["peers"].lower().split()
+    if kind == "dial nonce":
+        return "nonce", bytes_of(groups["bytes"])
+    if kind == "dial output":
+        return "output", groups["flag"], bytes_of(groups["bytes"])
+    return ("fault",)
+
+
 def add(script, kind, groups):
     if kind == "rounds":
         script.rounds = int(groups["u64"])
     elif kind == "client":
-        hello = b"" if groups["hello"] in "-." else bytes.fromhex(groups["hello"])
-        path = groups["address"].removeprefix(PLAIN).encode()
-        script.sessions.append(Client(groups["mech"], int(groups["u32"]), hello, groups["flatpak"] == "y", path))
+        hello = bytes_of(groups["hello"])
+        script.sessions.append(Client(groups["mech"], int(groups["u32"]), hello, groups["flatpak"] == "y", groups["address"]))
     elif kind == "server":
         permitted = None if groups["u32"] is None else int(groups["u32"])
         script.sessions.append(Server(groups["guid"].lower(), groups["mech"], permitted))
     elif kind.startswith("dial"):
-        script.dials.setdefault(int(groups["u32"]), []).append(groups["flag"] == "y" if kind == "dial open" else None)
+        script.dials.setdefault(int(groups["u32"]), []).append(dial_answer(kind, groups))
     elif kind.startswith("send"):
         answer = int(groups["u64"]) if kind == "send took" else kind.split()[1]
         script.sends.setdefault(int(groups["u32"]), []).append(answer)

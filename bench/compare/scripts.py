@@ -1,6 +1,9 @@
 """Random scripts: right ones, with every kind of line that is built, and ones that are spoilt in a line or two."""
 
-GUID = "1234deadbeef1234deadbeef12345678"
+import addresses
+import reading
+
+GUID = addresses.GUID
 OK = f"OK {GUID}\r\n".encode()
 
 # lines that are put in anywhere: of other forms, at wrong places, out of range, or of no form
@@ -35,7 +38,7 @@ def bus_says(rng):
     """All that the bus says to a client."""
     lines = [rng.choice([OK, OK, OK, other_line(rng)])]
     for _ in range(rng.choice([0, 0, 1, 2])):
-        lines.append(rng.choice([b"AGREE_UNIX_FD\r\n", b"ERROR\r\n", OK, other_line(rng)]))
+        lines.append(rng.choice([b"AGREE_UNIX_FD\r\n"] * 4 + [b"ERROR\r\n", OK, other_line(rng)]))
     return b"".join(lines)
 
 
@@ -57,14 +60,16 @@ def peer_says(rng, server):
     if rng.random() < 0.05:
         said = said[:rng.randrange(len(said) + 1)]
     if rng.random() < 0.05:
-        said += b"a" * rng.choice([16383, 16384, 16385, 20000]) + rng.choice([b"\r\n", b"\n", b"", b"b"])
+        long = b"a" * rng.choice([16382, 16383, 16384, 16385, 20000]) + rng.choice([b"\r\n", b"\n", b"", b"b"])
+        said = rng.choice([said + long, long + said, b"\0" + long])
     return said + bytes(rng.randrange(256) for _ in range(rng.choice([0, 0, 0, 1, 3, 2000])))
 
 
 def reads(rng, server):
     """The answers to the reads of one session."""
     said = peer_says(rng, server)
-    step = rng.choice([len(said) + 1, len(said) + 1, 1, 5, 30, 1023, 1024, 1025])
+    steps = [1, 5, 30] if len(said) < 300 else [100, 1023, 1024, 1025]
+    step = rng.choice([len(said) + 1, len(said) + 1, *steps])
     answers = []
     for start in range(0, len(said), step):
         answers += ["again"] * (rng.random() < 0.15)
@@ -98,40 +103,43 @@ def wait(rng, sessions, faults):
 
 
 def session(rng):
-    """A session's line, and whether it is a server's."""
-    if rng.random() < 0.5:
-        return f"server {GUID} {rng.choice(['EXTERNAL', 'EXTERNAL', 'ANONYMOUS'])} {rng.choice(['-', '1000', '1000', '7'])} -", True
-    parts = [rng.choice(["-", "EXTERNAL", "EXTERNAL", "ANONYMOUS"]), str(rng.choice([0, 7, 1000, 4294967295])),
-             rng.choice(["-", "-", ".", "6c01"]), rng.choice("yn"), "-"]
-    return f"client {' '.join(parts)} unix:path=/run/{rng.choice('abc')}", False
+    """A session's line, and the session."""
+    if rng.random() < 0.35:
+        permitted = rng.choice([None, 1000, 1000, 7])
+        server = reading.Server(GUID, rng.choice(["EXTERNAL", "EXTERNAL", "ANONYMOUS"]), permitted)
+        return f"server {GUID} {server.mechanism} {'-' if permitted is None else permitted} -", server
+    parts = [rng.choice(["-", "-", "EXTERNAL", "ANONYMOUS"]), str(rng.choice([0, 7, 1000, 4294967295])),
+             rng.choice(["-", "-", ".", "6c01"]), rng.choice("yn"), "-", addresses.clients_address(rng)]
+    return f"client {' '.join(parts)}", reading.Client(parts[0], int(parts[1]), b"", parts[3] == "y", parts[5])
 
 
-def queues(rng, servers):
+def queues(rng, sessions):
     """The lines of each queue of answers, in order."""
     faults = rng.random() < 0.15
     found = []
-    for number, server in enumerate(servers):
+    for number, one in enumerate(sessions):
+        if rng.random() < 0.95:
+            found.append([f"dial {number} {answer}" for answer in addresses.answers(rng, one)])
         if rng.random() < 0.9:
-            found.append([f"dial {number} {rng.choice(['open n', 'open y'] * 4 + ['fault'])}"])
-        if rng.random() < 0.9:
+            server = isinstance(one, reading.Server)
             found.append([f"recv {number} {answer}" for answer in reads(rng, server)])
         found.append([f"send {number} {answer}" for answer in sends(rng)])
     for call in ("add", "modify", "delete"):
         answers = ["fault" if faults and rng.random() < 0.4 else "ok" for _ in range(rng.choice([0, 0, 1, 3]))]
         found.append([f"{call} {answer}" for answer in answers])
-    found.append([wait(rng, len(servers), faults) for _ in range(rng.randrange(12))])
+    found.append([wait(rng, len(sessions), faults) for _ in range(rng.randrange(12))])
     return [queue for queue in found if queue]
 
 
 def right(rng):
     """The lines of a script."""
     lines = [f"rounds {rng.choice([0, 1, 2, 3, 5, 8, 12])}"]
-    servers = []
+    sessions = []
     for _ in range(rng.choice([0, 1, 1, 2, 2, 3, 4, 6])):
-        line, server = session(rng)
+        line, one = session(rng)
         lines.append(line)
-        servers.append(server)
-    left = queues(rng, servers)
+        sessions.append(one)
+    left = queues(rng, sessions)
     while left:
         queue = rng.choice(left)
         lines.append(queue.pop(0))
@@ -165,4 +173,4 @@ def script(rng):
         lines = spoilt(rng, lines)
     end = "\n" if rng.random() < 0.9 else ""
     coding = "latin-1" if rng.random() < 0.02 else "utf-8"
-    return ("\n".join(lines) + end).encode(coding)
+    return ("\n".join(lines) + end).encode(coding, "replace")
