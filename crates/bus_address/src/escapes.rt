@@ -1,6 +1,7 @@
 //! Escapes in the values of an address (D-Bus specification, Server Addresses).
 
-ghost use Rattle.std.specs.Prelude.{◌≡◌, ◌≤◌, ◌<◌, ◌*◌, ◌+◌, ◌++◌, IfOk, IfErr, MatchOption, Some, None, true, false, length, take, ◌∷◌, string_bytes, slice_index, IsAscii};
+ghost use Rattle.std.specs.Prelude.{◌≡◌, ◌≤◌, ◌<◌, ◌*◌, ◌+◌, ◌++◌, IfOk, IfErr, MatchOption, Some, None};
+ghost use Rattle.std.specs.Prelude.{true, false, length, take, ◌∷◌, string_bytes, slice_index, IsAscii};
 ghost use Rattle.std.specs.Char.{is_ascii_hexdigit, digit_value};
 ghost use Rattle.std.specs.List.{list_all};
 ghost use Rattle.std.specs.Option.{ok_or};
@@ -106,7 +107,8 @@ fn first_piece<'b, 'a: 'b>(bytes: &'a [u8], buffer: &'b mut EscapeBuffer) -> (&'
 }
 
 fn hexadecimal_value(digit: u8) -> Option<u8>
-    ensures { MatchOption result (is_ascii_hexdigit digit ≡ false) (λ value. (is_ascii_hexdigit digit ≡ true) × (value ≡ digit_value digit) × (value < 16)) }
+    ensures { MatchOption result (is_ascii_hexdigit digit ≡ false)
+        (λ value. (is_ascii_hexdigit digit ≡ true) × (value ≡ digit_value digit) × (value < 16)) }
 {
     match digit {
         b'0'..=b'9' => Some(digit - b'0'),
