@@ -29,10 +29,12 @@ pub trait Handshake {
     /// of the wire left it, and may be polled again.
     fn poll<W: Wire>(&mut self, alloc: Global, outside: &mut W, wire: u32) -> Step
         requires open { ended self.old ≡ false }
-        ensures polls { Polls Self stands written wire self.old self.new (W.outer outside.old).events (W.outer outside.new).events result }
+        ensures polls { Polls Self stands written wire self.old self.new (W.outer outside.old).events
+            (W.outer outside.new).events result }
         ensures leaves { Leaves Self stands written unlooked self.new result }
         ensures ended { ended self.new ≡ is_end result }
-        ensures cause { IoCounted result ((W.outer outside.old).wire_faults wire) ((W.outer outside.new).wire_faults wire) }
+        ensures cause { IoCounted result ((W.outer outside.old).wire_faults wire)
+            ((W.outer outside.new).wire_faults wire) }
         ensures keeps { Keeps (part.Wire wire) (W.outer outside.old) (W.outer outside.new) };
 
     /// What the wire took, a nonce included.

@@ -1,6 +1,7 @@
 //! Bytes that came and were not looked at.
 
-ghost use Rattle.std.specs.Prelude.{◌≡◌, ◌==◌, ◌≤◌, ◌+◌, ◌-◌, ◌++◌, List, [], ℕ, length, take, drop, position, IfOk, OnOk};
+ghost use Rattle.std.specs.Prelude.{◌≡◌, ◌==◌, ◌≤◌, ◌+◌, ◌-◌, ◌++◌, List, [], ℕ};
+ghost use Rattle.std.specs.Prelude.{length, take, drop, position, IfOk, OnOk};
 ghost use Rattle.std.specs.List.{flat_map};
 ghost use Rattle.std.specs.Vec.{vec_capacity};
 ghost use Rattle.bus_opening.specs.Limits.{line_limit, read_size, buffer_limit};
@@ -114,7 +115,8 @@ fn receive<W: Wire>(bytes: &mut Vec<u8>, outside: &mut W, wire: u32) -> Result<R
     requires few { length bytes.old.items ≤ line_limit }
     requires within { vec_capacity bytes.old ≤ buffer_limit }
     ensures amount { IfOk result (IsReceived read_size) }
-    ensures told { (into : List ℕ) × (length into ≡ read_size) × ((W.outer outside.new).events ≡ told (W.outer outside.old).events (recv_told wire into result))
+    ensures told { (into : List ℕ) × (length into ≡ read_size)
+        × ((W.outer outside.new).events ≡ told (W.outer outside.old).events (recv_told wire into result))
         × (bytes.new.items ≡ bytes.old.items ++ flat_map bytes_got (recv_told wire into result)) }
     ensures cause { Counted result ((W.outer outside.old).wire_faults wire) ((W.outer outside.new).wire_faults wire) }
     ensures keeps { Keeps (part.Wire wire) (W.outer outside.old) (W.outer outside.new) }
@@ -176,9 +178,11 @@ impl Inbox {
     pub(crate) fn recv<W: Wire>(&mut self, outside: &mut W, wire: u32) -> Result<Received, Fault>
         requires { length self.old ≤ line_limit }
         ensures amount { IfOk result (IsReceived read_size) }
-        ensures told { (into : List ℕ) × (length into ≡ read_size) × ((W.outer outside.new).events ≡ told (W.outer outside.old).events (recv_told wire into result))
+        ensures told { (into : List ℕ) × (length into ≡ read_size)
+            × ((W.outer outside.new).events ≡ told (W.outer outside.old).events (recv_told wire into result))
             × (self.new ≡ self.old ++ flat_map bytes_got (recv_told wire into result)) }
-        ensures cause { Counted result ((W.outer outside.old).wire_faults wire) ((W.outer outside.new).wire_faults wire) }
+        ensures cause { Counted result ((W.outer outside.old).wire_faults wire)
+            ((W.outer outside.new).wire_faults wire) }
         ensures keeps { Keeps (part.Wire wire) (W.outer outside.old) (W.outer outside.new) }
     {
         remove_front(&mut self.bytes, self.start);
