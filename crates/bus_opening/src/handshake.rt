@@ -11,7 +11,8 @@ use crate::verdict::Step;
 use react_core::outside::Wire;
 use std::alloc::Global;
 
-/// One side of an opening in progress (D-Bus specification, Authentication Protocol). It asks its wire and nothing else.
+/// One side of an opening in progress (D-Bus specification, Authentication Protocol). It asks its wire and nothing
+/// else.
 pub trait Handshake {
     /// Over these bytes that came the opening stands in this conversation.
     ghost stands: { (List (List ℕ) → Said) → List ℕ → Self → Type 0 };
@@ -25,8 +26,8 @@ pub trait Handshake {
     /// Whether a poll has answered the end.
     ghost ended: { Self → Bool };
 
-    /// Asks the wire until it isn't ready or the opening ends. After `OutOfMemory` the opening stands where the last call
-    /// of the wire left it, and may be polled again.
+    /// Asks the wire until it isn't ready or the opening ends. After `OutOfMemory` the opening stands where the last
+    /// call of the wire left it, and may be polled again.
     fn poll<W: Wire>(&mut self, alloc: Global, outside: &mut W, wire: u32) -> Step
         requires open { ended self.old ≡ false }
         ensures polls { Polls Self stands written wire self.old self.new (W.outer outside.old).events

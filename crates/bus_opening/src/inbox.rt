@@ -98,7 +98,8 @@ fn make_room(bytes: &mut Vec<u8>) -> Result<(), AllocError>
     bytes.reserve_exact(room_for_read(len, bytes.capacity()) - len)
 }
 
-// Puts bytes behind those that are there, in the room that they have. `extend_from_slice` doesn't say what room it leaves.
+// Puts bytes behind those that are there, in the room that they have. `extend_from_slice` doesn't say what room it
+// leaves.
 fn append(bytes: &mut Vec<u8>, came: &[u8])
     requires room { length bytes.old.items + length came.now ≤ vec_capacity bytes.old }
     ensures items { bytes.new.items ≡ bytes.old.items ++ came.now }
@@ -109,8 +110,8 @@ fn append(bytes: &mut Vec<u8>, came: &[u8])
     }
 }
 
-// Reads behind the bytes that are there. Memory is there before the wire is asked, so that no byte that came is lost; where
-// none came and none were there it is given back.
+// Reads behind the bytes that are there. Memory is there before the wire is asked, so that no byte that came is lost;
+// where none came and none were there it is given back.
 fn receive<W: Wire>(bytes: &mut Vec<u8>, outside: &mut W, wire: u32) -> Result<Received, Fault>
     requires few { length bytes.old.items ≤ line_limit }
     requires within { vec_capacity bytes.old ≤ buffer_limit }
