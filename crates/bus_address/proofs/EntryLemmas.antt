@@ -1,5 +1,7 @@
 -- Keys and values that are read part by part.
-use Rattle.std.proofs.Common.{◌≡◌, ℕ, zero, suc, ◌+◌, ◌<◌, ◌≤◌, Bool, true, false, cond, ◌&&◌, List, [], ◌∷◌, ◌++◌, length, map, take, get_or, take_all, add-one, Option, Some, None, Err, Bor, refl, sym, ap, ◌∙◌, arith}
+use Rattle.std.proofs.Common.{◌≡◌, ℕ, zero, suc, ◌+◌, ◌<◌, ◌≤◌, Bool, true, false, cond, ◌&&◌}
+use Rattle.std.proofs.Common.{List, [], ◌∷◌, ◌++◌, length, map, take, get_or, take_all}
+use Rattle.std.proofs.Common.{add-one, Option, Some, None, Err, Bor, refl, sym, ap, ◌∙◌, arith}
 use Rattle.std.specs.Prelude.{if◌then◌else◌, is_some, ◌==◌, ok_or, IsSomeAnd}
 use Rattle.std.specs.Option.{option_copied, option_or}
 use Rattle.std.specs.List.{list_all, filter_map, slice_split, cons_option}
@@ -50,12 +52,16 @@ cons_option-push : (o : Option Entry) (es : List Entry) (e : Entry) → cons_opt
 cons_option-push None es e = refl
 cons_option-push (Some x) es e = refl
 
-pub formed_more : (refs : List (Bor (List ℕ))) (i : ℕ) (d : Bor (List ℕ)) (e : Entry) → i < length refs → entry (get_or refs i d).now ≡ Some e → list_all is_entry (texts (take i refs)) ≡ true → list_all is_entry (texts (take (suc i) refs)) ≡ true
+pub formed_more : (refs : List (Bor (List ℕ))) (i : ℕ) (d : Bor (List ℕ)) (e : Entry) → i < length refs
+    → entry (get_or refs i d).now ≡ Some e → list_all is_entry (texts (take i refs)) ≡ true
+    → list_all is_entry (texts (take (suc i) refs)) ≡ true
 formed_more [] i d e inside has formed = absurd (omega arith)
 formed_more (r ∷ rs) zero d e inside has formed = ap (λ o. is_some o && true) has
 formed_more (r ∷ rs) (suc i) d e inside has formed = and_more (is_entry r.now) _ _ formed (λ h. formed_more rs i d e (omega arith) has h)
 
-pub entries_more : (refs : List (Bor (List ℕ))) (i : ℕ) (d : Bor (List ℕ)) (e : Entry) → i < length refs → entry (get_or refs i d).now ≡ Some e → filter_map entry (texts (take (suc i) refs)) ≡ filter_map entry (texts (take i refs)) ++ e ∷ []
+pub entries_more : (refs : List (Bor (List ℕ))) (i : ℕ) (d : Bor (List ℕ)) (e : Entry) → i < length refs
+    → entry (get_or refs i d).now ≡ Some e
+    → filter_map entry (texts (take (suc i) refs)) ≡ filter_map entry (texts (take i refs)) ++ e ∷ []
 entries_more [] i d e inside has = absurd (omega arith)
 entries_more (r ∷ rs) zero d e inside has = ap (λ o. cons_option o []) has
 entries_more (r ∷ rs) (suc i) d e inside has = ap (λ es. cons_option (entry r.now) es) (entries_more rs i d e (omega arith) has) ∙ cons_option-push (entry r.now) _ _
@@ -68,13 +74,21 @@ formed_not (r ∷ rs) (suc i) d inside has = and_false (is_entry r.now) _ (forme
 pub no_entries : (parts : List (List ℕ)) → list_all is_entry parts ≡ false → ok_or (entries_of parts) kinds.Form ≡ Err kinds.Form
 no_entries parts not_formed = rw not_formed refl
 
-pub all_entries : (parts : List (List ℕ)) (value : List ℕ → Option (List ℕ)) → list_all is_entry parts ≡ true → ((key : List ℕ) → value key ≡ value_of (filter_map entry parts) key) → IsSomeAnd (entries_of parts) (λ es. (key : List ℕ) → value key ≡ value_of es key)
+pub all_entries : (parts : List (List ℕ)) (value : List ℕ → Option (List ℕ)) → list_all is_entry parts ≡ true
+    → ((key : List ℕ) → value key ≡ value_of (filter_map entry parts) key)
+    → IsSomeAnd (entries_of parts) (λ es. (key : List ℕ) → value key ≡ value_of es key)
 all_entries parts value formed same = rw formed same
 
-pub formed_next : (refs : List (Bor (List ℕ))) (i : ℕ) (d : Bor (List ℕ)) (e : Entry) → i < length refs → Some e ≡ entry (get_or refs i d).now → list_all is_entry (texts (take i refs)) ≡ true → list_all is_entry (texts (take (i + 1) refs)) ≡ true
+pub formed_next : (refs : List (Bor (List ℕ))) (i : ℕ) (d : Bor (List ℕ)) (e : Entry) → i < length refs
+    → Some e ≡ entry (get_or refs i d).now → list_all is_entry (texts (take i refs)) ≡ true
+    → list_all is_entry (texts (take (i + 1) refs)) ≡ true
 formed_next refs i d e inside has formed = ap (λ n. list_all is_entry (texts (take n refs))) (add-one i) ∙ formed_more refs i d e inside (sym has) formed
 
-pub kept_next : (refs : List (Bor (List ℕ))) (i : ℕ) (d : Bor (List ℕ)) (e : Entry) (old new : List ℕ → Option (List ℕ)) → i < length refs → Some e ≡ entry (get_or refs i d).now → ((key : List ℕ) → old key ≡ value_of (filter_map entry (texts (take i refs))) key) → ((asked : List ℕ) → new asked ≡ (if bytes_eq e.0 asked then Some e.1 else old asked)) → (key : List ℕ) → new key ≡ value_of (filter_map entry (texts (take (i + 1) refs))) key
+pub kept_next : (refs : List (Bor (List ℕ))) (i : ℕ) (d : Bor (List ℕ)) (e : Entry) (old new : List ℕ → Option (List ℕ))
+    → i < length refs → Some e ≡ entry (get_or refs i d).now
+    → ((key : List ℕ) → old key ≡ value_of (filter_map entry (texts (take i refs))) key)
+    → ((asked : List ℕ) → new asked ≡ (if bytes_eq e.0 asked then Some e.1 else old asked)) → (key : List ℕ)
+    → new key ≡ value_of (filter_map entry (texts (take (i + 1) refs))) key
 kept_next refs i d e old new inside has kept set key =
     set key
     ∙ ap (λ o. if bytes_eq e.0 key then Some e.1 else o) (kept key)
@@ -82,11 +96,15 @@ kept_next refs i d e old new inside has kept set key =
     ∙ sym (ap (λ es. value_of es key) (entries_more refs i d e inside (sym has)))
     ∙ sym (ap (λ n. value_of (filter_map entry (texts (take n refs))) key) (add-one i))
 
-pub no_entries_at : (refs : List (Bor (List ℕ))) (i : ℕ) (d : Bor (List ℕ)) (text : List ℕ) → i < length refs → None ≡ entry (get_or refs i d).now → texts refs ≡ parts text → ok_or (entries text) kinds.Form ≡ Err kinds.Form
+pub no_entries_at : (refs : List (Bor (List ℕ))) (i : ℕ) (d : Bor (List ℕ)) (text : List ℕ) → i < length refs
+    → None ≡ entry (get_or refs i d).now → texts refs ≡ parts text → ok_or (entries text) kinds.Form ≡ Err kinds.Form
 no_entries_at refs i d text inside none parts_are =
     sym (ap (λ ps. ok_or (entries_of ps) kinds.Form) parts_are) ∙ no_entries (texts refs) (formed_not refs i d inside (sym none))
 
-pub all_entries_at : (refs : List (Bor (List ℕ))) (i : ℕ) (text : List ℕ) (value : List ℕ → Option (List ℕ)) → length refs ≤ i → texts refs ≡ parts text → list_all is_entry (texts (take i refs)) ≡ true → ((key : List ℕ) → value key ≡ value_of (filter_map entry (texts (take i refs))) key) → IsSomeAnd (entries text) (λ es. (key : List ℕ) → value key ≡ value_of es key)
+pub all_entries_at : (refs : List (Bor (List ℕ))) (i : ℕ) (text : List ℕ) (value : List ℕ → Option (List ℕ))
+    → length refs ≤ i → texts refs ≡ parts text → list_all is_entry (texts (take i refs)) ≡ true
+    → ((key : List ℕ) → value key ≡ value_of (filter_map entry (texts (take i refs))) key)
+    → IsSomeAnd (entries text) (λ es. (key : List ℕ) → value key ≡ value_of es key)
 all_entries_at refs i text value past parts_are formed kept =
     let same : texts (take i refs) ≡ parts text = ap texts (take_all i refs past) ∙ parts_are in
     all_entries (parts text) value (sym (ap (list_all is_entry) same) ∙ formed) (λ key. kept key ∙ ap (λ ps. value_of (filter_map entry ps) key) same)

@@ -1,5 +1,7 @@
 -- Texts that are read escape by escape.
-use Rattle.std.proofs.Common.{◌≡◌, ℕ, zero, suc, IsAscii, subst, ◌+◌, ◌*◌, ◌/◌, ◌%◌, ◌<◌, Bool, true, false, ◌&&◌, List, [], ◌∷◌, ◌++◌, take, drop, get_or, Option, Some, None, refl, sym, ap, ◌∙◌, arith, append_assoc, length, length-set, set}
+use Rattle.std.proofs.Common.{◌≡◌, ℕ, zero, suc, IsAscii, subst, ◌+◌, ◌*◌, ◌/◌, ◌%◌, ◌<◌, Bool, true}
+use Rattle.std.proofs.Common.{false, ◌&&◌, List, [], ◌∷◌, ◌++◌, take, drop, get_or, Option, Some}
+use Rattle.std.proofs.Common.{None, refl, sym, ap, ◌∙◌, arith, append_assoc, length, length-set, set}
 use Rattle.std.specs.Char.{is_ascii_hexdigit, digit_value, digit_char}
 use Rattle.std.specs.List.{list_all, AllByRecursion}
 use Rattle.std.specs.Str.{IsUtf8}
@@ -25,7 +27,10 @@ pub with_front-end : (bs : List ℕ) → with_front bs (Some []) ≡ Some bs
 with_front-end bs = ap Some (append-nil bs)
 
 -- one byte more is read
-pub read_more : (text rest others behind bs new : List ℕ) (first b : ℕ) → with_front bs (unescaped rest) ≡ unescaped text → rest ≡ first ∷ others → unescaped (first ∷ others) ≡ with_first b (unescaped behind) → new ≡ bs ++ b ∷ [] → with_front new (unescaped behind) ≡ unescaped text
+pub read_more : (text rest others behind bs new : List ℕ) (first b : ℕ)
+    → with_front bs (unescaped rest) ≡ unescaped text → rest ≡ first ∷ others
+    → unescaped (first ∷ others) ≡ with_first b (unescaped behind) → new ≡ bs ++ b ∷ []
+    → with_front new (unescaped behind) ≡ unescaped text
 read_more text rest others behind bs new first b sofar at first_is pushed =
     ap (λ v. with_front v (unescaped behind)) pushed ∙ with_front-push bs b (unescaped behind) ∙ ap (with_front bs) (sym first_is) ∙ ap (λ v. with_front bs (unescaped v)) (sym at) ∙ sofar
 
@@ -87,7 +92,9 @@ with_front-append xs ys None = refl
 with_front-append xs ys (Some cs) = ap Some (append_assoc xs ys cs)
 
 -- a run more is read, behind its first byte
-pub run_more : (first : ℕ) (rest run behind old one new : List ℕ) (n : ℕ) → is_plain first ≡ true → list_all is_plain (take n rest) ≡ true → run ≡ take n rest → behind ≡ drop n rest → one ≡ old ++ first ∷ [] → new ≡ one ++ run → with_front new (unescaped behind) ≡ with_front old (unescaped (first ∷ rest))
+pub run_more : (first : ℕ) (rest run behind old one new : List ℕ) (n : ℕ) → is_plain first ≡ true
+    → list_all is_plain (take n rest) ≡ true → run ≡ take n rest → behind ≡ drop n rest → one ≡ old ++ first ∷ []
+    → new ≡ one ++ run → with_front new (unescaped behind) ≡ with_front old (unescaped (first ∷ rest))
 run_more first rest run behind old one new n plain all run_is behind_is pushed added =
     let whole : rest ≡ take n rest ++ drop n rest = sym (take-append-drop n rest) in
     ap (λ v. with_front v (unescaped behind)) (added ∙ (λ i. pushed i ++ run_is i))
@@ -98,7 +105,8 @@ run_more first rest run behind old one new n plain all run_is behind_is pushed a
     ∙ ap (with_front old) (sym (unescaped-plain first rest plain))
 
 -- an escape more is read
-pub escape_more : (text behind old new : List ℕ) (byte : ℕ) → unescaped text ≡ with_first byte (unescaped behind) → new ≡ old ++ byte ∷ [] → with_front new (unescaped behind) ≡ with_front old (unescaped text)
+pub escape_more : (text behind old new : List ℕ) (byte : ℕ) → unescaped text ≡ with_first byte (unescaped behind)
+    → new ≡ old ++ byte ∷ [] → with_front new (unescaped behind) ≡ with_front old (unescaped text)
 escape_more text behind old new byte says pushed =
     ap (λ v. with_front v (unescaped behind)) pushed ∙ with_front-push old byte (unescaped behind) ∙ ap (with_front old) (sym says)
 
@@ -129,7 +137,10 @@ three_stored old n x y z inside =
     ∙ append_assoc (take n old) (x ∷ []) (y ∷ z ∷ [])
 
 -- an escape more is stored
-pub escape_stored : (bytes old : List ℕ) (i b x y : ℕ) → i < length bytes → b ≡ get_or bytes i 0 → is_plain b ≡ false → x ≡ digit_char (b / 16) → y ≡ digit_char (b % 16) → 3 * i + 2 < length old → take (3 * i) old ≡ escaped (take i bytes) → take (3 * (i + 1)) (set (set (set old (3 * i) 37) (3 * i + 1) x) (3 * i + 2) y) ≡ escaped (take (i + 1) bytes)
+pub escape_stored : (bytes old : List ℕ) (i b x y : ℕ) → i < length bytes → b ≡ get_or bytes i 0 → is_plain b ≡ false
+    → x ≡ digit_char (b / 16) → y ≡ digit_char (b % 16) → 3 * i + 2 < length old
+    → take (3 * i) old ≡ escaped (take i bytes)
+    → take (3 * (i + 1)) (set (set (set old (3 * i) 37) (3 * i + 1) x) (3 * i + 2) y) ≡ escaped (take (i + 1) bytes)
 escape_stored bytes old i b x y inside at plain high low room sofar =
     let next : 3 * (i + 1) ≡ 3 * i + 3 = omega arith in
     ap (λ n. take n (set (set (set old (3 * i) 37) (3 * i + 1) x) (3 * i + 2) y)) next

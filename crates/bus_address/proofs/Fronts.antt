@@ -8,6 +8,12 @@ use Rattle.std.proofs.lemmas.Str.Pattern.{starts_text}
 use lib.Dec.{eqb}
 use denote.Ref.{Bor}
 
-pub front_cut : (front text : List ℕ) (r : Option (Bor (List ℕ))) → MatchOption r (FindsTextPrefix front text None) (λ x. StripsPrefix (FindsTextPrefix front) text x.now) → MatchOption r (starts_with eqb text front ≡ false) (λ x. (starts_with eqb text front ≡ true) × (x.now ≡ drop (length front) text))
+pub front_cut : (front text : List ℕ) (r : Option (Bor (List ℕ)))
+    → MatchOption r (FindsTextPrefix front text None) (λ x. StripsPrefix (FindsTextPrefix front) text x.now)
+    → MatchOption r (starts_with eqb text front ≡ false)
+    (λ x. (starts_with eqb text front ≡ true) × (x.now ≡ drop (length front) text))
 front_cut front text None h = sym (starts_text false front text h)
-front_cut front text (Some x) (n, found, cut, len) = (sym (starts_text true front text (n, found, subst (λ (k : ℕ). IsCharBoundary text k) (sym found.0) found.2)), subst (λ (k : ℕ). x.now ≡ drop k text) found.0 cut)
+front_cut front text (Some x) (n, found, cut, len) = (
+  sym (starts_text true front text (n, found, subst (λ (k : ℕ). IsCharBoundary text k) (sym found.0) found.2)),
+  subst (λ (k : ℕ). x.now ≡ drop k text) found.0 cut,
+)

@@ -1,5 +1,7 @@
 -- Each printed address is read back.
-use Rattle.std.proofs.Common.{◌≡◌, ◌≢◌, ℕ, zero, suc, ◌+◌, ◌/◌, ◌%◌, ◌<◌, ◌≤◌, ◌^◌, Bool, true, false, ◌&&◌, not, List, [], ◌∷◌, ◌++◌, length, map, Option, Some, None, Result, Ok, Err, refl, sym, ap, ◌∙◌, subst, arith, length-append, codes}
+use Rattle.std.proofs.Common.{◌≡◌, ◌≢◌, ℕ, zero, suc, ◌+◌, ◌/◌, ◌%◌, ◌<◌, ◌≤◌, ◌^◌, Bool, true, false}
+use Rattle.std.proofs.Common.{◌&&◌, not, List, [], ◌∷◌, ◌++◌, length, map, Option, Some, None, Result}
+use Rattle.std.proofs.Common.{Ok, Err, refl, sym, ap, ◌∙◌, subst, arith, length-append, codes}
 use Rattle.std.specs.Prelude.{if◌then◌else◌, nat_lt, is_some, is_none, ok_or, ◌==◌, slice_index}
 use Rattle.std.specs.Option.{option_map, option_or}
 use Rattle.std.specs.List.{list_all, enumerate_from}
@@ -115,7 +117,9 @@ found_guid : (ps : List Entry) (g : Option (List ℕ)) → value_of ps (codes "g
 found_guid ps None none = ap (λ es. value_of es (codes "guid")) (append_nil ps) ∙ none
 found_guid ps (Some g) none = value_of-push ps (codes "guid", g) (codes "guid")
 
-with_parts : (name : List ℕ) (len : ℕ) (value : Lookup) (g : Option (List ℕ)) (t : Transport) → value (codes "guid") ≡ g → IsOptionalGuid g → transport name len value ≡ Ok t → address_with name len value ≡ Ok (record { transport = t; guid = g })
+with_parts : (name : List ℕ) (len : ℕ) (value : Lookup) (g : Option (List ℕ)) (t : Transport) → value (codes "guid") ≡ g
+    → IsOptionalGuid g → transport name len value ≡ Ok t
+    → address_with name len value ≡ Ok (record { transport = t; guid = g })
 with_parts name len value None t is r h =
     ap (λ o. optional guid_value o >>= λ guid. (transport name len value >>= λ transport. Ok (record { transport = transport; guid = guid }))) is
     ∙ ap (λ read. read >>= λ transport. Ok (record { transport = transport; guid = None })) h
@@ -141,13 +145,18 @@ front_short name ps qs =
     omega (arith, length-append ps qs, length-append name (58 ∷ entries_text (ps ++ qs)))
 
 -- a text of readable keys is read by them
-read_back : (name : List ℕ) (es : List Entry) (a : AddressParts) → lacks 58 name ≡ true → 0 < length name → list_all is_whole es ≡ true → address_with name (length (address_text name es)) (value_of es) ≡ Ok a → address (address_text name es) ≡ Ok a
+read_back : (name : List ℕ) (es : List Entry) (a : AddressParts) → lacks 58 name ≡ true → 0 < length name
+    → list_all is_whole es ≡ true → address_with name (length (address_text name es)) (value_of es) ≡ Ok a
+    → address (address_text name es) ≡ Ok a
 read_back name es a plain some whole says_a =
     ap (λ o. ok_or o kinds.Form >>= address_of (length (address_text name es))) (transport_and_rest-text name (entries_text es) plain some)
     ∙ ap (λ o. ok_or o kinds.Form >>= λ found. address_with name (length (address_text name es)) (value_of found)) (entries-text es whole)
     ∙ says_a
 
-back : (name : List ℕ) (ps : List Entry) (t : Transport) (g : Option (List ℕ)) → lacks 58 name ≡ true → 0 < length name → list_all is_whole ps ≡ true → IsOptionalGuid g → value_of ps (codes "guid") ≡ None → ((len : ℕ) → length ps ≤ len → transport name len (value_of (ps ++ optional_entry (codes "guid") g)) ≡ Ok t) → address (address_text name (ps ++ optional_entry (codes "guid") g)) ≡ Ok (record { transport = t; guid = g })
+back : (name : List ℕ) (ps : List Entry) (t : Transport) (g : Option (List ℕ)) → lacks 58 name ≡ true → 0 < length name
+    → list_all is_whole ps ≡ true → IsOptionalGuid g → value_of ps (codes "guid") ≡ None
+    → ((len : ℕ) → length ps ≤ len → transport name len (value_of (ps ++ optional_entry (codes "guid") g)) ≡ Ok t)
+    → address (address_text name (ps ++ optional_entry (codes "guid") g)) ≡ Ok (record { transport = t; guid = g })
 back name ps t g plain some whole r none read =
     let es : List Entry = ps ++ optional_entry (codes "guid") g in
     let len : ℕ = length (address_text name es) in
@@ -177,12 +186,16 @@ no_guid (sockets.TmpDir path) = refl
 socket_same : (a a' b b' c c' d d' : Option (List ℕ)) → a ≡ a' → b ≡ b' → c ≡ c' → d ≡ d' → socket a b c d ≡ socket a' b' c' d'
 socket_same a a' b b' c c' d d' ea eb ec ed = λ i. socket (ea i) (eb i) (ec i) (ed i)
 
-pub unix_back : (s : UnixSocket) (g : Option (List ℕ)) → IsReadableSocket s → IsOptionalGuid g → address (says (record { transport = transports.Unix s; guid = g })) ≡ Ok (record { transport = transports.Unix s; guid = g })
+pub unix_back : (s : UnixSocket) (g : Option (List ℕ)) → IsReadableSocket s → IsOptionalGuid g
+    → address (says (record { transport = transports.Unix s; guid = g }))
+    ≡ Ok (record { transport = transports.Unix s; guid = g })
 unix_back s g v r =
     let ps : List Entry = socket_entry s ∷ [] in
     back (codes "unix") ps (transports.Unix s) g refl (omega arith) (socket_whole s v) r (no_guid s)
     (λ len few. ap (λ read. read >>= λ socket. Ok (transports.Unix socket))
-    (socket_same _ _ _ _ _ _ _ _ (found_other ps g (codes "path") refl) (found_other ps g (codes "abstract") refl) (found_other ps g (codes "dir") refl) (found_other ps g (codes "tmpdir") refl) ∙ socket_read s v))
+    (socket_same _ _ _ _ _ _ _ _ (found_other ps g (codes "path") refl) (found_other ps g (codes "abstract") refl)
+    (found_other ps g (codes "dir") refl) (found_other ps g (codes "tmpdir") refl)
+    ∙ socket_read s v))
 
 -- TCP
 family_read : (f : Option TcpTransportFamily) → optional family (option_map family_name f) ≡ Ok f
@@ -232,7 +245,12 @@ optional_read (Some bytes) v = ap (λ d. d >>= λ x. Ok (Some x)) (decoded-escap
 abbrev tcp_of : Bool → Option (List ℕ) → Option (List ℕ) → Option (List ℕ) → Option (List ℕ) → Option (List ℕ) → Result TcpParts AddressKind
 tcp_of needed b h p f n =
     if is_some b then Err kinds.Bind
-    else (((ok_or h kinds.MissingHost >>= decoded) >>= host_text) >>= λ host. ((ok_or p kinds.MissingPort >>= port) >>= λ number. (optional family f >>= λ family. ((optional decoded n >>= λ file. if needed && is_none file then Err kinds.MissingNonceFile else Ok file) >>= λ file. Ok (record { host = host; bind = None; port = number; family = family; nonce_file = file })))))
+    else (((ok_or h kinds.MissingHost >>= decoded) >>= host_text) >>= λ host.
+    ((ok_or p kinds.MissingPort >>= port) >>= λ number.
+    (optional family f >>= λ family.
+    ((optional decoded n >>= λ file.
+    if needed && is_none file then Err kinds.MissingNonceFile else Ok file) >>= λ file.
+    Ok (record { host = host; bind = None; port = number; family = family; nonce_file = file })))))
 
 tcp_same : (needed : Bool) (b b' h h' p p' f f' n n' : Option (List ℕ)) → b ≡ b' → h ≡ h' → p ≡ p' → f ≡ f' → n ≡ n' → tcp_of needed b h p f n ≡ tcp_of needed b' h' p' f' n'
 tcp_same needed b b' h h' p p' f f' n n' eb eh ep ef en = λ i. tcp_of needed (eb i) (eh i) (ep i) (ef i) (en i)
@@ -245,13 +263,39 @@ not_missing : (b : Bool) (n : Option (List ℕ)) → b ≡ false → (if b then 
 not_missing true n e = absurd cc
 not_missing false n e = refl
 
-tcp_of-says : (h : List ℕ) (p : ℕ) (f : Option TcpTransportFamily) (n : Option (List ℕ)) → IsValue h → IsUtf8 h → p < 65536 → IsOptionalValue n → tcp_of (is_some n) None (Some (escaped h)) (Some (decimal p)) (option_map family_name f) (option_map escaped n) ≡ Ok (record { host = h; bind = None; port = p; family = f; nonce_file = n })
+tcp_of-says : (h : List ℕ) (p : ℕ) (f : Option TcpTransportFamily) (n : Option (List ℕ)) → IsValue h → IsUtf8 h
+    → p < 65536 → IsOptionalValue n
+    → tcp_of (is_some n) None (Some (escaped h)) (Some (decimal p)) (option_map family_name f) (option_map escaped n)
+    ≡ Ok (record { host = h; bind = None; port = p; family = f; nonce_file = n })
 tcp_of-says h p f n hv hu ps nv =
-    ap (λ d. (d >>= host_text) >>= λ host. (port (decimal p) >>= λ number. (optional family (option_map family_name f) >>= λ family. ((optional decoded (option_map escaped n) >>= λ file. if is_some n && is_none file then Err kinds.MissingNonceFile else Ok file) >>= λ file. Ok (record { host = host; bind = None; port = number; family = family; nonce_file = file }))))) (decoded-escaped h hv)
-    ∙ ap (λ d. d >>= λ host. (port (decimal p) >>= λ number. (optional family (option_map family_name f) >>= λ family. ((optional decoded (option_map escaped n) >>= λ file. if is_some n && is_none file then Err kinds.MissingNonceFile else Ok file) >>= λ file. Ok (record { host = host; bind = None; port = number; family = family; nonce_file = file }))))) (host_text_ok h hu)
-    ∙ ap (λ d. d >>= λ number. (optional family (option_map family_name f) >>= λ family. ((optional decoded (option_map escaped n) >>= λ file. if is_some n && is_none file then Err kinds.MissingNonceFile else Ok file) >>= λ file. Ok (record { host = h; bind = None; port = number; family = family; nonce_file = file })))) (port_read p ps)
-    ∙ ap (λ d. d >>= λ family. ((optional decoded (option_map escaped n) >>= λ file. if is_some n && is_none file then Err kinds.MissingNonceFile else Ok file) >>= λ file. Ok (record { host = h; bind = None; port = p; family = family; nonce_file = file }))) (family_read f)
-    ∙ ap (λ d. (d >>= λ file. if is_some n && is_none file then Err kinds.MissingNonceFile else Ok file) >>= λ file. Ok (record { host = h; bind = None; port = p; family = f; nonce_file = file })) (optional_read n nv)
+    ap (λ d. (d >>= host_text) >>= λ host.
+    (port (decimal p) >>= λ number.
+    (optional family (option_map family_name f) >>= λ family.
+    ((optional decoded (option_map escaped n) >>= λ file.
+    if is_some n && is_none file then Err kinds.MissingNonceFile else Ok file) >>= λ file.
+    Ok (record { host = host; bind = None; port = number; family = family; nonce_file = file })))))
+    (decoded-escaped h hv)
+    ∙ ap (λ d. d >>= λ host.
+    (port (decimal p) >>= λ number.
+    (optional family (option_map family_name f) >>= λ family.
+    ((optional decoded (option_map escaped n) >>= λ file.
+    if is_some n && is_none file then Err kinds.MissingNonceFile else Ok file) >>= λ file.
+    Ok (record { host = host; bind = None; port = number; family = family; nonce_file = file })))))
+    (host_text_ok h hu)
+    ∙ ap (λ d. d >>= λ number.
+    (optional family (option_map family_name f) >>= λ family.
+    ((optional decoded (option_map escaped n) >>= λ file.
+    if is_some n && is_none file then Err kinds.MissingNonceFile else Ok file) >>= λ file.
+    Ok (record { host = h; bind = None; port = number; family = family; nonce_file = file }))))
+    (port_read p ps)
+    ∙ ap (λ d. d >>= λ family.
+    ((optional decoded (option_map escaped n) >>= λ file.
+    if is_some n && is_none file then Err kinds.MissingNonceFile else Ok file) >>= λ file.
+    Ok (record { host = h; bind = None; port = p; family = family; nonce_file = file })))
+    (family_read f)
+    ∙ ap (λ d. (d >>= λ file. if is_some n && is_none file then Err kinds.MissingNonceFile else Ok file) >>= λ file.
+    Ok (record { host = h; bind = None; port = p; family = f; nonce_file = file }))
+    (optional_read n nv)
     ∙ ap (λ d. d >>= λ file. Ok (record { host = h; bind = None; port = p; family = f; nonce_file = file })) (not_missing (is_some n && is_none n) n (enough n))
 
 abbrev tcp_parts : List ℕ → ℕ → Option TcpTransportFamily → Option (List ℕ) → TcpParts
@@ -285,7 +329,10 @@ tcp_name_plain : (n : Option (List ℕ)) → (lacks 58 (tcp_name_by n) ≡ true)
 tcp_name_plain None = (refl, omega arith)
 tcp_name_plain (Some x) = (refl, omega arith)
 
-tcp_parts_back : (h : List ℕ) (p : ℕ) (f : Option TcpTransportFamily) (n g : Option (List ℕ)) → IsValue h → IsUtf8 h → p < 65536 → IsOptionalValue n → IsOptionalGuid g → address (says (record { transport = transports.Tcp (tcp_parts h p f n); guid = g })) ≡ Ok (record { transport = transports.Tcp (tcp_parts h p f n); guid = g })
+tcp_parts_back : (h : List ℕ) (p : ℕ) (f : Option TcpTransportFamily) (n g : Option (List ℕ)) → IsValue h → IsUtf8 h
+    → p < 65536 → IsOptionalValue n → IsOptionalGuid g
+    → address (says (record { transport = transports.Tcp (tcp_parts h p f n); guid = g }))
+    ≡ Ok (record { transport = transports.Tcp (tcp_parts h p f n); guid = g })
 tcp_parts_back h p f n g hv hu ps nv r =
     let es : List Entry = tcp_entries (tcp_parts h p f n) in
     let found = tcp_found h p f n in
@@ -300,9 +347,16 @@ tcp_parts_back h p f n g hv hu ps nv r =
     (found_other es g (codes "noncefile") refl ∙ found.4)
     ∙ tcp_of-says h p f n hv hu ps nv))
 
-pub tcp_back : (t : TcpParts) (g : Option (List ℕ)) → IsReadableTcp t → IsOptionalGuid g → address (says (record { transport = transports.Tcp t; guid = g })) ≡ Ok (record { transport = transports.Tcp t; guid = g })
+pub tcp_back : (t : TcpParts) (g : Option (List ℕ)) → IsReadableTcp t → IsOptionalGuid g
+    → address (says (record { transport = transports.Tcp t; guid = g }))
+    ≡ Ok (record { transport = transports.Tcp t; guid = g })
 tcp_back t g v r =
-    let P : Option (List ℕ) → Type 0 = λ b. address (says (record { transport = transports.Tcp (record { host = t.host; bind = b; port = t.port; family = t.family; nonce_file = t.nonce_file }); guid = g })) ≡ Ok (record { transport = transports.Tcp (record { host = t.host; bind = b; port = t.port; family = t.family; nonce_file = t.nonce_file }); guid = g }) in
+    let made : Option (List ℕ) → AddressParts = λ b. record {
+      transport = transports.Tcp
+          (record { host = t.host; bind = b; port = t.port; family = t.family; nonce_file = t.nonce_file });
+      guid = g;
+    } in
+    let P : Option (List ℕ) → Type 0 = λ b. address (says (made b)) ≡ Ok (made b) in
     subst P (sym v.bind) (tcp_parts_back t.host t.port t.family t.nonce_file g v.host v.text v.port v.nonce_file r)
 
 pub ibus_back : (t : Ibus) (g : Option (List ℕ)) → IsOptionalGuid g → address (says (record { transport = transports.Ibus t; guid = g })) ≡ Ok (record { transport = transports.Ibus t; guid = g })
@@ -362,7 +416,9 @@ later_found k n a rest low small =
     ∙ or_none (value_of (numbered (k + 1) rest) (argument_key n))
 
 -- the arguments are found one by one
-walk : (args : List (List ℕ)) (k most : ℕ) (argument : ℕ → Option (List ℕ)) → ((n : ℕ) → k ≤ n → n ≤ k + length args → argument n ≡ value_of (numbered k args) (argument_key n)) → k + length args < 2 ^ 64 → length args < most → arguments_from argument k most ≡ map escaped args
+walk : (args : List (List ℕ)) (k most : ℕ) (argument : ℕ → Option (List ℕ))
+    → ((n : ℕ) → k ≤ n → n ≤ k + length args → argument n ≡ value_of (numbered k args) (argument_key n))
+    → k + length args < 2 ^ 64 → length args < most → arguments_from argument k most ≡ map escaped args
 walk args k zero argument same small enough = absurd (omega arith)
 walk [] k (suc most) argument same small enough = ap (λ o. up_to_missing o (arguments_from argument (suc k) most)) (same k (omega arith) (omega arith))
 walk (a ∷ rest) k (suc most) argument same small enough =
@@ -392,11 +448,16 @@ value_of-append (x ∷ xs) ys key =
 abbrev program_front : List ℕ → Option (List ℕ) → List Entry
 program_front path arg0 = (codes "path", escaped path) ∷ optional_entry (codes "argv0") (option_map escaped arg0)
 
-behind_front : (path : List ℕ) (arg0 : Option (List ℕ)) (args : List (List ℕ)) (key : List ℕ) → value_of (numbered 1 args) key ≡ None → value_of (program_front path arg0 ++ numbered 1 args) key ≡ value_of (program_front path arg0) key
+behind_front : (path : List ℕ) (arg0 : Option (List ℕ)) (args : List (List ℕ)) (key : List ℕ)
+    → value_of (numbered 1 args) key ≡ None
+    → value_of (program_front path arg0 ++ numbered 1 args) key ≡ value_of (program_front path arg0) key
 behind_front path arg0 args key none =
     value_of-append (program_front path arg0) (numbered 1 args) key ∙ ap (λ o. option_or o (value_of (program_front path arg0) key)) none
 
-front_path : (path : List ℕ) (arg0 : Option (List ℕ)) → (value_of (program_front path arg0) (codes "path") ≡ Some (escaped path)) × (value_of (program_front path arg0) (codes "argv0") ≡ option_map escaped arg0) × (value_of (program_front path arg0) (codes "guid") ≡ None)
+front_path : (path : List ℕ) (arg0 : Option (List ℕ))
+    → (value_of (program_front path arg0) (codes "path") ≡ Some (escaped path))
+    × (value_of (program_front path arg0) (codes "argv0") ≡ option_map escaped arg0)
+    × (value_of (program_front path arg0) (codes "guid") ≡ None)
 front_path path None = (refl, refl, refl)
 front_path path (Some a) = (refl, refl, refl)
 
@@ -444,13 +505,22 @@ program_of p a r = (ok_or p kinds.MissingPath >>= decoded) >>= λ path. (optiona
 program_same : (p p' a a' : Option (List ℕ)) (r r' : Result (List (List ℕ)) AddressKind) → p ≡ p' → a ≡ a' → r ≡ r' → program_of p a r ≡ program_of p' a' r'
 program_same p p' a a' r r' ep ea er = λ i. program_of (ep i) (ea i) (er i)
 
-program_of-says : (path : List ℕ) (arg0 : Option (List ℕ)) (args : List (List ℕ)) → IsValue path → IsOptionalValue arg0 → AreValues args → program_of (Some (escaped path)) (option_map escaped arg0) (all_decoded (map escaped args)) ≡ Ok (program_parts path arg0 args)
+program_of-says : (path : List ℕ) (arg0 : Option (List ℕ)) (args : List (List ℕ)) → IsValue path → IsOptionalValue arg0
+    → AreValues args
+    → program_of (Some (escaped path)) (option_map escaped arg0) (all_decoded (map escaped args))
+    ≡ Ok (program_parts path arg0 args)
 program_of-says path arg0 args pv av vs =
-    ap (λ d. d >>= λ path. (optional decoded (option_map escaped arg0) >>= λ arg0. (all_decoded (map escaped args) >>= λ args. Ok (record { path = path; arg0 = arg0; args = args })))) (decoded-escaped path pv)
+    ap (λ d. d >>= λ path.
+    (optional decoded (option_map escaped arg0) >>= λ arg0.
+    (all_decoded (map escaped args) >>= λ args. Ok (record { path = path; arg0 = arg0; args = args }))))
+    (decoded-escaped path pv)
     ∙ ap (λ d. d >>= λ arg0. (all_decoded (map escaped args) >>= λ args. Ok (record { path = path; arg0 = arg0; args = args }))) (optional_read arg0 av)
     ∙ ap (λ d. d >>= λ args. Ok (record { path = path; arg0 = arg0; args = args })) (all_decoded-escaped args vs)
 
-numbered_found : (path : List ℕ) (arg0 : Option (List ℕ)) (args : List (List ℕ)) (g : Option (List ℕ)) (n : ℕ) → 1 ≤ n → n < 2 ^ 64 → value_of ((program_front path arg0 ++ numbered 1 args) ++ optional_entry (codes "guid") g) (argument_key n) ≡ value_of (numbered 1 args) (argument_key n)
+numbered_found : (path : List ℕ) (arg0 : Option (List ℕ)) (args : List (List ℕ)) (g : Option (List ℕ)) (n : ℕ) → 1 ≤ n
+    → n < 2 ^ 64
+    → value_of ((program_front path arg0 ++ numbered 1 args) ++ optional_entry (codes "guid") g) (argument_key n)
+    ≡ value_of (numbered 1 args) (argument_key n)
 numbered_found path arg0 args g n low small =
     found_other (program_front path arg0 ++ numbered 1 args) g (argument_key n) refl
     ∙ value_of-append (program_front path arg0) (numbered 1 args) (argument_key n)
@@ -460,7 +530,10 @@ numbered_found path arg0 args g n low small =
 front_long : (path : List ℕ) (arg0 : Option (List ℕ)) → 0 < length (program_front path arg0)
 front_long path arg0 = omega arith
 
-pub program_back : (p : ProgramParts) (g : Option (List ℕ)) → IsReadableProgram p → IsOptionalGuid g → length (says (record { transport = transports.Unixexec p; guid = g })) < 2 ^ 64 → address (says (record { transport = transports.Unixexec p; guid = g })) ≡ Ok (record { transport = transports.Unixexec p; guid = g })
+pub program_back : (p : ProgramParts) (g : Option (List ℕ)) → IsReadableProgram p → IsOptionalGuid g
+    → length (says (record { transport = transports.Unixexec p; guid = g })) < 2 ^ 64
+    → address (says (record { transport = transports.Unixexec p; guid = g }))
+    ≡ Ok (record { transport = transports.Unixexec p; guid = g })
 program_back p g v r fits =
     let es : List Entry = program_front p.path p.arg0 ++ numbered 1 p.args in
     let front = front_path p.path p.arg0 in
@@ -468,7 +541,9 @@ program_back p g v r fits =
     let some = front_long p.path p.arg0 in
     let few : length p.args + 1 < 2 ^ 64 = omega (arith, count, front_short (codes "unixexec") es (optional_entry (codes "guid") g), length-append (program_front p.path p.arg0) (numbered 1 p.args)) in
     back (codes "unixexec") es (transports.Unixexec p) g refl (omega arith)
-    (all_append (program_front p.path p.arg0) (numbered 1 p.args) (together _ _ (escaped_value p.path v.path) (optional_whole (codes "argv0") p.arg0 refl v.arg0)) (args_whole 1 p.args (omega arith) v.args))
+    (all_append (program_front p.path p.arg0) (numbered 1 p.args)
+    (together _ _ (escaped_value p.path v.path) (optional_whole (codes "argv0") p.arg0 refl v.arg0))
+    (args_whole 1 p.args (omega arith) v.args))
     r
     (behind_front p.path p.arg0 p.args (codes "guid") (none_at (codes "guid") 1 p.args (λ n low high. refl)) ∙ front.2)
     (λ len enough. ap (λ read. read >>= λ program. Ok (transports.Unixexec program))
@@ -480,7 +555,9 @@ program_back p g v r fits =
     (omega (arith, count, enough, some, length-append (program_front p.path p.arg0) (numbered 1 p.args)))))
     ∙ program_of-says p.path p.arg0 p.args v.path v.arg0 v.args))
 
-back_by : (t : Transport) (g : Option (List ℕ)) → IsReadableTransport t → IsOptionalGuid g → length (says (record { transport = t; guid = g })) < 2 ^ 64 → address (says (record { transport = t; guid = g })) ≡ Ok (record { transport = t; guid = g })
+back_by : (t : Transport) (g : Option (List ℕ)) → IsReadableTransport t → IsOptionalGuid g
+    → length (says (record { transport = t; guid = g })) < 2 ^ 64
+    → address (says (record { transport = t; guid = g })) ≡ Ok (record { transport = t; guid = g })
 back_by (transports.Unix s) g v r fits = unix_back s g v r
 back_by (transports.Tcp t) g v r fits = tcp_back t g v r
 back_by (transports.Unixexec p) g v r fits = program_back p g v r fits
@@ -490,7 +567,8 @@ back_by (transports.Ibus i) g v r fits = ibus_back i g r
 says_back : (a : AddressParts) → IsReadable a → length (says a) < 2 ^ 64 → address (says a) ≡ Ok a
 says_back a v fits = back_by a.transport a.guid v.transport v.guid fits
 
-pub gives_back : (text : List ℕ) (answer : Result AddressParts AddressError) → length text < 2 ^ 64 → Gives answer (address text) → (a : AddressParts) → IsReadable a → says a ≡ text → Gives answer (Ok a)
+pub gives_back : (text : List ℕ) (answer : Result AddressParts AddressError) → length text < 2 ^ 64
+    → Gives answer (address text) → (a : AddressParts) → IsReadable a → says a ≡ text → Gives answer (Ok a)
 gives_back text answer fits given a v is_text =
     let P : List ℕ → Type 0 = λ t. length t < 2 ^ 64 → address t ≡ Ok a in
     let read : address text ≡ Ok a = subst P is_text (says_back a v) fits in

@@ -33,18 +33,28 @@ flat_map-numbered [] = refl
 flat_map-numbered (argument ∷ arguments) = ap (λ v. numbered_text argument ++ v) (flat_map-numbered arguments)
 
 -- the keys behind the path
-program_behind : (arg0 : Option (List ℕ)) (args : List (List ℕ)) → behind (codes "argv0") arg0 ++ arguments_text args ≡ flat_map (λ e. 44 ∷ entry_text e) (optional_entry (codes "argv0") (option_map escaped arg0) ++ argument_entries (enumerate_from 1 args))
+program_behind : (arg0 : Option (List ℕ)) (args : List (List ℕ))
+    → behind (codes "argv0") arg0 ++ arguments_text args
+    ≡ flat_map (λ e. 44 ∷ entry_text e)
+    (optional_entry (codes "argv0") (option_map escaped arg0) ++ argument_entries (enumerate_from 1 args))
 program_behind None args = sym (flat_map-numbered (enumerate_from 1 args))
 program_behind (Some arg0) args = ap (λ v. (44 ∷ entry_text (codes "argv0", escaped arg0)) ++ v) (sym (flat_map-numbered (enumerate_from 1 args)))
 
 -- what is printed of a program
-program_written : (path : List ℕ) (arg0 : Option (List ℕ)) (args : List (List ℕ)) → codes "unixexec:" ++ (entry_text (codes "path", escaped path) ++ (behind (codes "argv0") arg0 ++ arguments_text args)) ≡ program_text (record { path = path; arg0 = arg0; args = args })
+program_written : (path : List ℕ) (arg0 : Option (List ℕ)) (args : List (List ℕ))
+    → codes "unixexec:"
+    ++ (entry_text (codes "path", escaped path) ++ (behind (codes "argv0") arg0 ++ arguments_text args))
+    ≡ program_text (record { path = path; arg0 = arg0; args = args })
 program_written path arg0 args =
     ap (λ v. codes "unixexec:" ++ v)
     (ap (λ v. entry_text (codes "path", escaped path) ++ v) (program_behind arg0 args)
     ∙ sym (entries_text-cons (codes "path", escaped path) (optional_entry (codes "argv0") (option_map escaped arg0) ++ argument_entries (enumerate_from 1 args))))
 
-pub program_pieces : (path : List ℕ) (arg0 : Option (List ℕ)) (args : List (List ℕ)) (p : ProgramParts) → path ≡ p.path → arg0 ≡ p.arg0 → args ≡ p.args → codes "unixexec:" ++ (entry_text (codes "path", escaped path) ++ (behind (codes "argv0") arg0 ++ arguments_text args)) ≡ program_text p
+pub program_pieces : (path : List ℕ) (arg0 : Option (List ℕ)) (args : List (List ℕ)) (p : ProgramParts) → path ≡ p.path
+    → arg0 ≡ p.arg0 → args ≡ p.args
+    → codes "unixexec:"
+    ++ (entry_text (codes "path", escaped path) ++ (behind (codes "argv0") arg0 ++ arguments_text args))
+    ≡ program_text p
 program_pieces path arg0 args p path_is arg0_is args_is =
     program_written path arg0 args ∙ (λ i. program_text (record { path = path_is i; arg0 = arg0_is i; args = args_is i }))
 
@@ -52,7 +62,8 @@ program_pieces path arg0 args p path_is arg0_is args_is =
 abbrev numbered_from : {A : Type 0} → ℕ → List (Vec ℕ A) → List ℕ
 numbered_from n vs = flat_map numbered_text (enumerate_from n (map (λ v. v.items) vs))
 
-numbered_more : {A : Type 0} (vs : List (Vec ℕ A)) (n i : ℕ) (v : Vec ℕ A) → i < length vs → v ≡ get_or vs i v → numbered_from n (take (suc i) vs) ≡ numbered_from n (take i vs) ++ numbered_text (n + i, v.items)
+numbered_more : {A : Type 0} (vs : List (Vec ℕ A)) (n i : ℕ) (v : Vec ℕ A) → i < length vs → v ≡ get_or vs i v
+    → numbered_from n (take (suc i) vs) ≡ numbered_from n (take i vs) ++ numbered_text (n + i, v.items)
 numbered_more [] n i v inside at = absurd (omega arith)
 numbered_more (w ∷ ws) n zero v inside at = append-nil (numbered_text (n, w.items)) ∙ rw (at, add-zero) refl
 numbered_more (w ∷ ws) n (suc i) v inside at =
@@ -61,7 +72,10 @@ numbered_more (w ∷ ws) n (suc i) v inside at =
     ∙ ap (λ m. (numbered_text (n, w.items) ++ numbered_from (n + 1) (take i ws)) ++ numbered_text (m, v.items)) (omega arith)
 
 -- one argument more
-pub arguments_more : {A : Type 0} (vs : List (Vec ℕ A)) (i : ℕ) (v : Vec ℕ A) (bytes : List ℕ) → i < length vs → v ≡ get_or vs i v → bytes ≡ v.items → arguments_text (map (λ v. v.items) (take i vs)) ++ numbered_text (i + 1, bytes) ≡ arguments_text (map (λ v. v.items) (take (i + 1) vs))
+pub arguments_more : {A : Type 0} (vs : List (Vec ℕ A)) (i : ℕ) (v : Vec ℕ A) (bytes : List ℕ) → i < length vs
+    → v ≡ get_or vs i v → bytes ≡ v.items
+    → arguments_text (map (λ v. v.items) (take i vs)) ++ numbered_text (i + 1, bytes)
+    ≡ arguments_text (map (λ v. v.items) (take (i + 1) vs))
 arguments_more vs i v bytes inside at bytes_is =
     let number : i + 1 ≡ 1 + i = omega arith in
     let next : suc i ≡ i + 1 = omega arith in
@@ -70,7 +84,9 @@ arguments_more vs i v bytes inside at bytes_is =
     ∙ sym (numbered_more vs 1 i v inside at)
     ∙ ap (λ m. arguments_text (map (λ v. v.items) (take m vs))) next
 
-push_optional : (name key : List ℕ) (o : Option (List ℕ)) (first : Entry) (others behind : List Entry) (last : Entry) → address_text name (((optional_entry key o ++ (first ∷ others)) ++ behind) ++ last ∷ []) ≡ address_text name ((optional_entry key o ++ (first ∷ others)) ++ behind) ++ 44 ∷ entry_text last
+push_optional : (name key : List ℕ) (o : Option (List ℕ)) (first : Entry) (others behind : List Entry) (last : Entry)
+    → address_text name (((optional_entry key o ++ (first ∷ others)) ++ behind) ++ last ∷ [])
+    ≡ address_text name ((optional_entry key o ++ (first ∷ others)) ++ behind) ++ 44 ∷ entry_text last
 push_optional name key None first others behind last = text-push name first (others ++ behind) last
 push_optional name key (Some value) first others behind last = text-push name (key, value) ((first ∷ others) ++ behind) last
 
@@ -86,7 +102,9 @@ guid_written (transports.Unixexec program) guid =
     (optional_entry (codes "argv0") (option_map escaped program.arg0) ++ argument_entries (enumerate_from 1 program.args)) (codes "guid", guid))
 guid_written (transports.Ibus ibus) guid = refl
 
-pub guid_pieces : (transport : Transport) (stored : Option (List ℕ)) (guid front : List ℕ) (a : AddressParts) → record { transport = transport; guid = stored } ≡ a → stored ≡ Some guid → front ≡ guid_front transport → transport_text transport ++ (front ++ guid) ≡ says a
+pub guid_pieces : (transport : Transport) (stored : Option (List ℕ)) (guid front : List ℕ) (a : AddressParts)
+    → record { transport = transport; guid = stored } ≡ a → stored ≡ Some guid → front ≡ guid_front transport
+    → transport_text transport ++ (front ++ guid) ≡ says a
 guid_pieces transport stored guid front a whole is_stored front_is =
     ap (λ v. transport_text transport ++ (v ++ guid)) front_is
     ∙ guid_written transport guid

@@ -28,7 +28,9 @@ transport_text transport = address_text (transport_name transport) (transport_en
 
 -- the text of an address: its transport's, with the GUID as the last key
 abbrev pub says : AddressParts → List ℕ
-says address = address_text (transport_name address.transport) (transport_entries address.transport ++ optional_entry (codes "guid") address.guid)
+says address =
+    address_text (transport_name address.transport)
+    (transport_entries address.transport ++ optional_entry (codes "guid") address.guid)
 
 -- what stands before the GUID of an address
 abbrev pub guid_front : Transport → List ℕ

@@ -1,8 +1,10 @@
 -- The text of an address: a transport's name, a colon, and keys with their values, parted by commas
 -- (D-Bus specification, Server Addresses).
-use Rattle.std.specs.Prelude.{ℕ, Bool, ◌==◌, ◌&&◌, nat_lt, is_some, if◌then◌else◌, List, [], ◌∷◌, ◌++◌, length, map, Option, Some, None, codes}
+use Rattle.std.specs.Prelude.{ℕ, Bool, ◌==◌, ◌&&◌, nat_lt, is_some, if◌then◌else◌, List}
+use Rattle.std.specs.Prelude.{[], ◌∷◌, ◌++◌, length, map, Option, Some, None, codes}
 use Rattle.std.specs.Option.{option_or}
-use Rattle.std.specs.List.{join_with_byte, slice_split, before_first, after_first, position_or_len, list_all, filter_map}
+use Rattle.std.specs.List.{join_with_byte, slice_split, before_first}
+use Rattle.std.specs.List.{after_first, position_or_len, list_all, filter_map}
 use Rattle.std.specs.Char.{is_ascii_alphanumeric}
 use Rattle.std.specs.Str.{bytes_eq}
 use Rattle.std.specs.Fmt.{decimal}
@@ -53,7 +55,8 @@ entries text = entries_of (parts text)
 -- the name of the transport, one or more bytes before the first colon, and what follows that colon
 abbrev pub transport_and_rest : List ℕ → Option (List ℕ × List ℕ)
 transport_and_rest text =
-    if nat_lt (position_or_len (λ b. b == 58) text) (length text) && nat_lt 0 (length (before_first (λ b. b == 58) text))
+    if nat_lt (position_or_len (λ b. b == 58) text) (length text)
+    && nat_lt 0 (length (before_first (λ b. b == 58) text))
     then Some (before_first (λ b. b == 58) text, after_first (λ b. b == 58) text)
     else None
 

@@ -1,5 +1,6 @@
 -- Escapes in the values of an address: optionally escaped bytes (D-Bus specification, Server Addresses).
-use Rattle.std.specs.Prelude.{ℕ, ◌+◌, ◌*◌, ◌/◌, ◌%◌, Bool, ◌==◌, ◌&&◌, ◌||◌, if◌then◌else◌, List, [], ◌∷◌, ◌++◌, Option, Some, None}
+use Rattle.std.specs.Prelude.{ℕ, ◌+◌, ◌*◌, ◌/◌, ◌%◌, Bool, ◌==◌, ◌&&◌, ◌||◌}
+use Rattle.std.specs.Prelude.{if◌then◌else◌, List, [], ◌∷◌, ◌++◌, Option, Some, None}
 use Rattle.std.specs.Option.{option_map}
 use Rattle.std.specs.List.{flat_map}
 use Rattle.std.specs.Char.{is_ascii_alphanumeric, is_ascii_hexdigit, digit_value, digit_char}
@@ -32,5 +33,6 @@ unescaped (c ∷ []) = if is_plain c then Some (c ∷ []) else None
 unescaped (c ∷ h ∷ []) = if is_plain c then with_first c (unescaped (h ∷ [])) else None
 unescaped (c ∷ h ∷ l ∷ rest) =
     if is_plain c then with_first c (unescaped (h ∷ l ∷ rest))
-    else if (c == 37) && is_ascii_hexdigit h && is_ascii_hexdigit l then with_first (16 * digit_value h + digit_value l) (unescaped rest)
+    else if (c == 37) && is_ascii_hexdigit h && is_ascii_hexdigit l
+    then with_first (16 * digit_value h + digit_value l) (unescaped rest)
     else None

@@ -42,7 +42,8 @@ tcp_name tcp = tcp_name_by tcp.nonce_file
 abbrev pub tcp_entries : TcpParts → List Entry
 tcp_entries tcp =
     optional_entry (codes "noncefile") (option_map escaped tcp.nonce_file)
-    ++ (codes "host", escaped tcp.host) ∷ (codes "port", decimal tcp.port) ∷ optional_entry (codes "bind") (option_map escaped tcp.bind)
+    ++ (codes "host", escaped tcp.host) ∷ (codes "port", decimal tcp.port)
+    ∷ optional_entry (codes "bind") (option_map escaped tcp.bind)
     ++ optional_entry (codes "family") (option_map family_name tcp.family)
 
 abbrev pub tcp_text : TcpParts → List ℕ

@@ -1,5 +1,6 @@
 -- Addresses that are read back from their printed text.
-use Rattle.std.specs.Prelude.{◌≡◌, ℕ, ◌<◌, nat_lt, Bool, true, ◌&&◌, is_none, IsTrue, List, [], ◌∷◌, length, Option, Some, None, ⊤, slice_index}
+use Rattle.std.specs.Prelude.{◌≡◌, ℕ, ◌<◌, nat_lt, Bool, true, ◌&&◌, is_none, IsTrue}
+use Rattle.std.specs.Prelude.{List, [], ◌∷◌, length, Option, Some, None, ⊤, slice_index}
 use Rattle.std.specs.List.{list_all}
 use Rattle.std.specs.Str.{IsUtf8}
 use Rattle.bus_address.specs.declared.unix.UnixSocket.{UnixSocket}
@@ -75,7 +76,8 @@ abbrev pub is_readable_tcp : TcpParts → Bool
 is_readable_tcp tcp = has_bytes tcp.host && is_none tcp.bind && has_bytes_if_some tcp.nonce_file
 
 abbrev pub is_readable_program : ProgramParts → Bool
-is_readable_program program = has_bytes program.path && has_bytes_if_some program.arg0 && list_all has_bytes program.args
+is_readable_program program =
+    has_bytes program.path && has_bytes_if_some program.arg0 && list_all has_bytes program.args
 
 abbrev pub is_readable_transport : Transport → Bool
 is_readable_transport (transports.Unix socket) = is_readable_socket socket

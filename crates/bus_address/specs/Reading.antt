@@ -1,5 +1,6 @@
 -- The address that a text says, or the first thing that is wrong with it (D-Bus specification, Server Addresses).
-use Rattle.std.specs.Prelude.{ℕ, zero, suc, Bool, true, false, ◌&&◌, is_some, is_none, List, [], ◌∷◌, length, Option, Some, None, Result, Ok, Err, ok_or, codes, if◌then◌else◌}
+use Rattle.std.specs.Prelude.{ℕ, zero, suc, Bool, true, false, ◌&&◌, is_some, is_none, List, [], ◌∷◌}
+use Rattle.std.specs.Prelude.{length, Option, Some, None, Result, Ok, Err, ok_or, codes, if◌then◌else◌}
 use Rattle.std.specs.Str.{bytes_eq}
 use Rattle.bus_address.specs.declared.error.AddressKind.{AddressKind}
 use Rattle.bus_address.specs.declared.error.AddressKind.TheVariants as kinds
@@ -18,7 +19,8 @@ abbrev pub Lookup : Type 0
 Lookup = List ℕ → Option (List ℕ)
 
 -- a Unix socket, from the values of path, abstract, dir and tmpdir: exactly one of them is there
-abbrev pub socket : Option (List ℕ) → Option (List ℕ) → Option (List ℕ) → Option (List ℕ) → Result UnixSocket AddressKind
+abbrev pub socket : Option (List ℕ) → Option (List ℕ) → Option (List ℕ) → Option (List ℕ)
+    → Result UnixSocket AddressKind
 socket (Some path) None None None = decoded path >>= λ bytes. Ok (sockets.File bytes)
 socket None (Some name) None None = decoded name >>= λ bytes. Ok (sockets.Abstract bytes)
 socket None None (Some path) None = decoded path >>= λ bytes. Ok (sockets.Dir bytes)
@@ -35,13 +37,19 @@ abbrev pub port_value : Lookup → Result ℕ AddressKind
 port_value value = ok_or (value (codes "port")) kinds.MissingPort >>= port
 
 abbrev pub nonce_file : Bool → Lookup → Result (Option (List ℕ)) AddressKind
-nonce_file needed value = optional decoded (value (codes "noncefile")) >>= λ file. if needed && is_none file then Err kinds.MissingNonceFile else Ok file
+nonce_file needed value =
+    optional decoded (value (codes "noncefile")) >>= λ file.
+    if needed && is_none file then Err kinds.MissingNonceFile else Ok file
 
 -- a TCP address, which needs a nonce file or not
 abbrev pub tcp : Bool → Lookup → Result TcpParts AddressKind
 tcp needed value =
     if is_some (value (codes "bind")) then Err kinds.Bind
-    else (host value >>= λ host. (port_value value >>= λ port. (optional family (value (codes "family")) >>= λ family. (nonce_file needed value >>= λ file. Ok (record { host = host; bind = None; port = port; family = family; nonce_file = file })))))
+    else (host value >>= λ host.
+    (port_value value >>= λ port.
+    (optional family (value (codes "family")) >>= λ family.
+    (nonce_file needed value >>= λ file.
+    Ok (record { host = host; bind = None; port = port; family = family; nonce_file = file })))))
 
 -- the value of an argument, with those of the next, or none where it is missing
 abbrev pub up_to_missing : Option (List ℕ) → List (List ℕ) → List (List ℕ)
@@ -67,7 +75,10 @@ program_path value = ok_or (value (codes "path")) kinds.MissingPath >>= decoded
 -- a program, in an address of so many bytes
 abbrev pub program : ℕ → Lookup → Result ProgramParts AddressKind
 program len value =
-    program_path value >>= λ path. (optional decoded (value (codes "argv0")) >>= λ arg0. (arguments len value >>= λ args. Ok (record { path = path; arg0 = arg0; args = args })))
+    program_path value >>= λ path.
+    (optional decoded (value (codes "argv0")) >>= λ arg0.
+    (arguments len value >>= λ args.
+    Ok (record { path = path; arg0 = arg0; args = args })))
 
 -- a transport by its name
 abbrev pub transport : List ℕ → ℕ → Lookup → Result Transport AddressKind
@@ -82,7 +93,8 @@ transport name len value =
 -- the GUID comes before the transport
 abbrev pub address_with : List ℕ → ℕ → Lookup → Result AddressParts AddressKind
 address_with name len value =
-    optional guid_value (value (codes "guid")) >>= λ guid. (transport name len value >>= λ transport. Ok (record { transport = transport; guid = guid }))
+    optional guid_value (value (codes "guid")) >>= λ guid.
+    (transport name len value >>= λ transport. Ok (record { transport = transport; guid = guid }))
 
 abbrev pub address_of : ℕ → List ℕ × List ℕ → Result AddressParts AddressKind
 address_of len cut = ok_or (entries cut.1) kinds.Form >>= λ entries. address_with cut.0 len (value_of entries)

@@ -1,5 +1,6 @@
 -- What the values of an address's keys say.
-use Rattle.std.specs.Prelude.{ℕ, ◌&&◌, nat_lt, List, length, Option, Some, None, Result, Ok, Err, ok_or, codes, if◌then◌else◌}
+use Rattle.std.specs.Prelude.{ℕ, ◌&&◌, nat_lt, List, length, Option, Some, None}
+use Rattle.std.specs.Prelude.{Result, Ok, Err, ok_or, codes, if◌then◌else◌}
 use Rattle.std.specs.Str.{bytes_eq, is_utf8, all_ascii_digits}
 use Rattle.std.specs.Str.Parse.{digits_value, without_leading_plus}
 use Rattle.bus_address.specs.declared.error.AddressKind.{AddressKind}
@@ -21,7 +22,8 @@ host_text bytes = if is_utf8 bytes then Ok bytes else Err kinds.HostText
 -- a port: one or more digits, with a + before them or not, of a number up to 65535
 abbrev pub port : List ℕ → Result ℕ AddressKind
 port text =
-    if (nat_lt 0 (length (without_leading_plus text)) && all_ascii_digits (without_leading_plus text)) && nat_lt (digits_value 10 (without_leading_plus text)) 65536
+    if (nat_lt 0 (length (without_leading_plus text)) && all_ascii_digits (without_leading_plus text))
+    && nat_lt (digits_value 10 (without_leading_plus text)) 65536
     then Ok (digits_value 10 (without_leading_plus text))
     else Err kinds.BadPort
 

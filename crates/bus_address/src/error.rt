@@ -1,7 +1,8 @@
 //! Why an address is refused.
 
 ghost use Rattle.std.specs.Prelude.{◌≡◌, Some};
-ghost use Rattle.bus_address.specs.declared.error.AddressError.TheVariants.{Kind as refused, OutOfMemory as out_of_memory};
+ghost use Rattle.bus_address.specs.declared.error.AddressError.TheVariants.{Kind as refused};
+ghost use Rattle.bus_address.specs.declared.error.AddressError.TheVariants.{OutOfMemory as out_of_memory};
 
 use std::alloc::{AllocError, AllocFailed};
 use std::error::Error;

@@ -1,6 +1,7 @@
 //! Escapes in the values of an address (D-Bus specification, Server Addresses).
 
-ghost use Rattle.std.specs.Prelude.{◌≡◌, ◌≤◌, ◌<◌, ◌*◌, ◌+◌, ◌++◌, IfOk, IfErr, MatchOption, Some, None, true, false, length, take, ◌∷◌, string_bytes, slice_index, IsAscii};
+ghost use Rattle.std.specs.Prelude.{◌≡◌, ◌≤◌, ◌<◌, ◌*◌, ◌+◌, ◌++◌, IfOk, IfErr, MatchOption, Some, None};
+ghost use Rattle.std.specs.Prelude.{true, false, length, take, ◌∷◌, string_bytes, slice_index, IsAscii};
 ghost use Rattle.std.specs.Char.{is_ascii_hexdigit, digit_value};
 ghost use Rattle.std.specs.List.{list_all};
 ghost use Rattle.std.specs.Option.{ok_or};
@@ -54,7 +55,8 @@ pub(crate) fn plain_len(bytes: &[u8]) -> usize
     bytes.len()
 }
 
-/// Writes the escapes of the bytes at the front that do not stand for themselves, at most sixteen, and gives their number.
+/// Writes the escapes of the bytes at the front that do not stand for themselves, at most sixteen, and gives their
+/// number.
 fn fill_escapes(bytes: &[u8], buffer: &mut EscapeBuffer) -> usize
     ensures in_range { result ≤ length bytes.now }
     ensures fits { result ≤ 16 }
@@ -89,8 +91,8 @@ fn plain_text(bytes: &[u8]) -> &str
     str::from_utf8(bytes).unwrap()
 }
 
-/// The text of the first bytes, and their number: those that stand for themselves, or else as many escapes as the buffer
-/// takes.
+/// The text of the first bytes, and their number: those that stand for themselves, or else as many escapes as the
+/// buffer takes.
 fn first_piece<'b, 'a: 'b>(bytes: &'a [u8], buffer: &'b mut EscapeBuffer) -> (&'b str, usize)
     requires { 0 < length bytes.now }
     ensures some { 0 < result.1 }
@@ -106,7 +108,8 @@ fn first_piece<'b, 'a: 'b>(bytes: &'a [u8], buffer: &'b mut EscapeBuffer) -> (&'
 }
 
 fn hexadecimal_value(digit: u8) -> Option<u8>
-    ensures { MatchOption result (is_ascii_hexdigit digit ≡ false) (λ value. (is_ascii_hexdigit digit ≡ true) × (value ≡ digit_value digit) × (value < 16)) }
+    ensures { MatchOption result (is_ascii_hexdigit digit ≡ false)
+        (λ value. (is_ascii_hexdigit digit ≡ true) × (value ≡ digit_value digit) × (value < 16)) }
 {
     match digit {
         b'0'..=b'9' => Some(digit - b'0'),
@@ -120,7 +123,8 @@ fn hexadecimal_value(digit: u8) -> Option<u8>
 fn escaped_byte(first: u8, rest: &[u8]) -> Option<(u8, &[u8])>
     requires { is_plain first ≡ false }
     ensures { MatchOption result (unescaped (first ∷ rest.now) ≡ None)
-        (λ x. (unescaped (first ∷ rest.now) ≡ with_first x.0 (unescaped x.1.now)) × (length x.1.now ≤ length rest.now)) }
+        (λ x. (unescaped (first ∷ rest.now) ≡ with_first x.0 (unescaped x.1.now))
+        × (length x.1.now ≤ length rest.now)) }
 {
     if first != b'%' {
         return None;
@@ -134,8 +138,8 @@ fn escaped_byte(first: u8, rest: &[u8]) -> Option<(u8, &[u8])>
     Some((16 * high + low, rest))
 }
 
-/// Adds what the front of a text writes, and gives the text behind it. The text begins with `first`; its front is a run of
-/// bytes that stand for themselves, or one escape.
+/// Adds what the front of a text writes, and gives the text behind it. The text begins with `first`; its front is a
+/// run of bytes that stand for themselves, or one escape.
 fn read_piece<'a>(bytes: &mut Vec<u8>, first: u8, rest: &'a [u8]) -> Result<&'a [u8], AddressError>
     ensures ok { IfOk result (λ behind. with_front bytes.new.items (unescaped behind.now)
         ≡ with_front bytes.old.items (unescaped (first ∷ rest.now))) }

@@ -1,6 +1,7 @@
 //! The keys of an address and their values.
 
-ghost use Rattle.std.specs.Prelude.{◌≡◌, ◌==◌, ℕ, List, Some, None, Ok, IfOk, IfErr, OnOk, map, length, IsSomeAnd, ok_or, if◌then◌else◌};
+ghost use Rattle.std.specs.Prelude.{◌≡◌, ◌==◌, ℕ, List, Some, None, Ok, IfOk, IfErr};
+ghost use Rattle.std.specs.Prelude.{OnOk, map, length, IsSomeAnd, ok_or, if◌then◌else◌};
 ghost use Rattle.std.specs.Option.{option_copied, option_map};
 ghost use Rattle.std.specs.List.{list_all, slice_split};
 ghost use Rattle.std.specs.Char.{is_ascii_alphanumeric};
@@ -88,7 +89,10 @@ impl<'a> Options<'a> {
 
     /// Sets the value of a key, in place of the one it had.
     fn insert(&mut self, key: &'a str, value: &'a str) -> Result<(), AddressError>
-        ensures ok { OnOk result ((asked : List ℕ) → found self.new.values asked ≡ (if bytes_eq key.now asked then Some value.now else found self.old.values asked)) }
+        ensures ok { OnOk result
+            ((asked : List ℕ)
+            → found self.new.values asked
+            ≡ (if bytes_eq key.now asked then Some value.now else found self.old.values asked)) }
         ensures err { IfErr result (λ e. e ≡ AddressError.OutOfMemory) }
     {
         self.values.insert(key, value)?;
@@ -104,7 +108,9 @@ impl<'a> Options<'a> {
 
     /// Reads keys with their values, parted by commas. Of equal keys the last counts.
     pub fn read(alloc: Global, text: &'a str) -> Result<Options<'a>, AddressError>
-        ensures ok { IfOk result (λ options. IsSomeAnd (entries text.now) (λ es. (key : List ℕ) → found options.values key ≡ value_of es key)) }
+        ensures ok { IfOk result
+            (λ options.
+            IsSomeAnd (entries text.now) (λ es. (key : List ℕ) → found options.values key ≡ value_of es key)) }
         ensures err { IfErr result (λ e. Refuses e (ok_or (entries text.now) AddressKind.Form)) }
     {
         let parts = parts(alloc, text)?;

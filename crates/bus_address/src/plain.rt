@@ -27,7 +27,8 @@ fn all_plain(value: &[u8]) -> bool
 /// The text without that front, where it has it.
 #[tactic(auto, using(crate::proofs::Fronts::front_cut))]
 fn cut_front<'a>(text: &'a str, front: &str) -> Option<&'a str>
-    ensures cut { MatchOption result (starts_with nat_eq text.now front.now ≡ false) (λ x. (starts_with nat_eq text.now front.now ≡ true) × (x.now ≡ drop (length front.now) text.now)) }
+    ensures cut { MatchOption result (starts_with nat_eq text.now front.now ≡ false)
+        (λ x. (starts_with nat_eq text.now front.now ≡ true) × (x.now ≡ drop (length front.now) text.now)) }
 {
     text.strip_prefix(front)
 }

@@ -5,7 +5,8 @@ ghost use Rattle.std.specs.Option.{option_copied, option_map};
 ghost use Rattle.bus_address.specs.Entries.{argument_key};
 ghost use Rattle.bus_address.specs.Values.{decoded, host_text, port, family, guid_value, optional};
 ghost use Rattle.bus_address.specs.Errors.{Gives, GivesBy};
-ghost use Rattle.bus_address.specs.Reading.{socket, unix, host, port_value, nonce_file, tcp, program_path, arguments, program, transport};
+ghost use Rattle.bus_address.specs.Reading.{socket, unix, host, port_value, nonce_file, tcp};
+ghost use Rattle.bus_address.specs.Reading.{program_path, arguments, program, transport};
 ghost use Rattle.bus_address.specs.Lookups.{found};
 
 use crate::error::{AddressError, AddressKind};
@@ -85,7 +86,9 @@ fn socket(
     dir: Option<&str>,
     tmpdir: Option<&str>,
 ) -> Result<UnixSocket, AddressError>
-    ensures { Gives result (socket (option_copied path.entry) (option_copied name.entry) (option_copied dir.entry) (option_copied tmpdir.entry)) }
+    ensures { Gives result
+        (socket (option_copied path.entry) (option_copied name.entry) (option_copied dir.entry)
+        (option_copied tmpdir.entry)) }
 {
     match (path, name, dir, tmpdir) {
         (Some(path), None, None, None) => Ok(UnixSocket::File(octets(alloc, path)?)),
@@ -213,7 +216,8 @@ fn argument(
     number: usize,
     options: &Options<'_>,
 ) -> Result<Option<Vec<u8>>, AddressError>
-    ensures { GivesBy (λ o. option_map (λ v. v.items) o) result (optional decoded (found options.now.values (argument_key number))) }
+    ensures { GivesBy (λ o. option_map (λ v. v.items) o) result
+        (optional decoded (found options.now.values (argument_key number))) }
 {
     let key = argument_key(alloc, number)?;
     match options.get(key.as_str()) {

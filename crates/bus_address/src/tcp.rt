@@ -86,9 +86,11 @@ impl Model for Tcp {
 
     ghost Value = { TcpParts };
 
-    ghost view = { λ t. record { host = t.host; bind = t.bind; port = t.port; family = t.family; nonce_file = t.nonce_file } };
+    ghost view = { λ t.
+        record { host = t.host; bind = t.bind; port = t.port; family = t.family; nonce_file = t.nonce_file } };
 
-    ghost inverse = { λ t. record { host = t.host; bind = t.bind; port = t.port; family = t.family; nonce_file = t.nonce_file } };
+    ghost inverse = { λ t.
+        record { host = t.host; bind = t.bind; port = t.port; family = t.family; nonce_file = t.nonce_file } };
 }
 
 impl Tcp {
@@ -97,7 +99,8 @@ impl Tcp {
 
     /// A host and a port alone.
     pub fn new(alloc: Global, host: &str, port: u16) -> Result<Tcp, OutOfMemory>
-        ensures { IfOk result (λ tcp. tcp ≡ record { host = host.now; bind = None; port = port; family = None; nonce_file = None }) }
+        ensures { IfOk result
+            (λ tcp. tcp ≡ record { host = host.now; bind = None; port = port; family = None; nonce_file = None }) }
     {
         let host = Text::from_string(String::from_str(alloc, host)?);
         Ok(Tcp {

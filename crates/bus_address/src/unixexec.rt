@@ -33,7 +33,12 @@ impl Unixexec {
 
     /// A program, the name that it is told for itself, and its other arguments.
     pub fn new(path: Vec<u8>, arg0: Option<Vec<u8>>, args: Vec<Vec<u8>>) -> Unixexec
-        ensures { result ≡ record { path = path.items; arg0 = option_map (λ v. v.items) arg0; args = map (λ v. v.items) args.items } }
+        ensures { result
+            ≡ record {
+              path = path.items;
+              arg0 = option_map (λ v. v.items) arg0;
+              args = map (λ v. v.items) args.items;
+            } }
     {
         Unixexec {
             path: Octets::from_vec(path),

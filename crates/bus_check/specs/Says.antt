@@ -1,11 +1,12 @@
 -- What is said of a text that is to be of some kind: whether it is, and the line that tells it.
-use Rattle.std.specs.Prelude.{◌≡◌, ◌⊎◌, ℕ, Bool, true, false, List, [], ◌∷◌, ◌++◌, length, Ok, Err, codes}
+use Rattle.std.specs.Prelude.{◌≡◌, ◌⊎◌, ℕ, Bool, true, false, List, ◌++◌, length, Ok, Err, codes}
 use Rattle.std.specs.Fmt.{decimal}
 use Rattle.bus_signature.specs.declared.signature.Signature.{Signature}
 use Rattle.bus_signature.specs.Grammar.{Spells, SpellsNone}
 use Rattle.bus_signature.specs.Measures.{alignment}
 use Rattle.bus_signature.specs.Texts as signatures
-use Rattle.bus_names.specs.ValidNames.{IsBusName, IsUniqueName, IsWellKnownName, IsInterfaceName, IsMemberName, IsPropertyName, IsErrorName}
+use Rattle.bus_names.specs.ValidNames.{IsBusName, IsUniqueName, IsWellKnownName, IsInterfaceName}
+use Rattle.bus_names.specs.ValidNames.{IsMemberName, IsPropertyName, IsErrorName}
 use Rattle.bus_address.specs.declared.error.AddressKind.{AddressKind}
 use Rattle.bus_address.specs.Address.{AddressParts, says}
 use Rattle.bus_address.specs.Errors.{kind_name}
@@ -20,7 +21,8 @@ refused_line why = codes "refused " ++ why ++ codes "\n"
 -- a signature's line has its text, the text's length and the alignment of a value
 abbrev pub signature_line : Signature → List ℕ
 signature_line s =
-    codes "ok " ++ signatures.text s ++ codes " " ++ decimal (length (signatures.text s)) ++ codes " " ++ decimal (alignment s) ++ codes "\n"
+    codes "ok " ++ signatures.text s ++ codes " " ++ decimal (length (signatures.text s)) ++ codes " "
+    ++ decimal (alignment s) ++ codes "\n"
 
 -- (D-Bus specification, Type System)
 abbrev pub SignatureSays : List ℕ → Bool → List ℕ → Type 0

@@ -44,7 +44,9 @@ element-end form false = refl
 
 -- a byte before the first element
 elements-step : (form : Form) (dot inside : Bool) (c : ℕ) (es : List (List ℕ)) → 1 ≤ length es
-    → ((dot || nat_le 2 (length (onto_first c es))) && rest_of_elements form inside (onto_first c es)) ≡ ((if inside then goes_on form c else starts form c) && ((dot || nat_le 2 (length es)) && rest_of_elements form true es))
+    → ((dot || nat_le 2 (length (onto_first c es))) && rest_of_elements form inside (onto_first c es))
+    ≡ ((if inside then goes_on form c else starts form c)
+    && ((dot || nat_le 2 (length es)) && rest_of_elements form true es))
 elements-step form dot inside c [] h = absurd (omega arith)
 elements-step form dot inside c (e ∷ es) h =
     rw (element-step form inside c e) (swap-and (dot || nat_le 2 (length (e ∷ es))) (if inside then goes_on form c else starts form c) (list_all (goes_on form) e) (list_all (is_element form) es))

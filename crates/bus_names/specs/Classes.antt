@@ -9,7 +9,9 @@ use Rattle.bus_names.specs.Grammar.{goes_on, starts}
 
 -- the class of a byte: 95 is _ and 45 is -
 abbrev pub class_of : ℕ → Class
-class_of c = if is_ascii_alphabetic c || c == 95 then Letter else (if is_ascii_digit c then Digit else (if c == 45 then Hyphen else Other))
+class_of c =
+    if is_ascii_alphabetic c || c == 95 then Letter
+    else (if is_ascii_digit c then Digit else (if c == 45 then Hyphen else Other))
 
 -- the place of the first byte that is no later one of an element, or the length
 abbrev pub run_len : Form → List ℕ → ℕ

@@ -1,5 +1,6 @@
 -- Each test of a grammar decides the relation, as the laws of the kinds say.
-use Rattle.std.proofs.Common.{◌≡◌, ℕ, ◌≤◌, true, false, not, ◌&&◌, ◌||◌, ◌==◌, nat_le, List, [], ◌∷◌, length, slice_index_or, refl, sym, ◌∙◌, ap, rules, arith}
+use Rattle.std.proofs.Common.{◌≡◌, ℕ, ◌≤◌, true, false, not, ◌&&◌, ◌||◌, ◌==◌, nat_le, List, []}
+use Rattle.std.proofs.Common.{◌∷◌, length, slice_index_or, refl, sym, ◌∙◌, ap, rules, arith}
 use Rattle.std.specs.Bool.{Decides}
 use Rattle.std.specs.Char.{is_ascii_alphanumeric}
 use Rattle.std.specs.Cmp.{first_so, second_so}
@@ -13,8 +14,12 @@ use Rattle.std.proofs.lemmas.List.Splits.{slice_split_none, slice_split_at, join
 use Rattle.std.proofs.lemmas.List.Sums.{AllPass-from_list_all}
 use Rattle.bus_names.specs.declared.grammar.Form.{Form}
 use Rattle.bus_names.specs.declared.grammar.Form.TheVariants.{Plain, Dashed, Numbered}
-use Rattle.bus_names.specs.Grammar.{starts, goes_on, is_element, elements, is_dotted, is_connection, is_short, is_interface_name, is_error_name, is_member_name, is_property_name, is_well_known_name, is_unique_name, is_bus_name, the_bus}
-use Rattle.bus_names.specs.ValidNames.{IsDigit, IsInterfaceByte, IsBusByte, IsInterfaceElement, IsWellKnownElement, IsUniqueElement, IsDotted, IsConnection, IsInterfaceName, IsErrorName, IsMemberName, IsPropertyName, IsWellKnownName, IsUniqueName, IsBusName}
+use Rattle.bus_names.specs.Grammar.{starts, goes_on, is_element, elements, is_dotted, is_connection, is_short}
+use Rattle.bus_names.specs.Grammar.{is_interface_name, is_error_name, is_member_name, is_property_name}
+use Rattle.bus_names.specs.Grammar.{is_well_known_name, is_unique_name, is_bus_name, the_bus}
+use Rattle.bus_names.specs.ValidNames.{IsDigit, IsInterfaceByte, IsBusByte, IsInterfaceElement, IsWellKnownElement}
+use Rattle.bus_names.specs.ValidNames.{IsUniqueElement, IsDotted, IsConnection, IsInterfaceName, IsErrorName}
+use Rattle.bus_names.specs.ValidNames.{IsMemberName, IsPropertyName, IsWellKnownName, IsUniqueName, IsBusName}
 
 Decides-nat_le : (a b : ℕ) → Decides (nat_le a b) (a ≤ b)
 Decides-nat_le a b = (leb-true a b, le-leb a b)
@@ -48,8 +53,10 @@ Decides-interface_byte c = (interface-byte-to c, interface-byte-from c)
 
 Decides-goes_on : (form : Form) (c : ℕ) → Decides (goes_on form c) (IsByte form c)
 Decides-goes_on Plain c = Decides-interface_byte c
-Decides-goes_on Dashed c = Decides-or (is_ascii_alphanumeric c || c == 95) (c == 45) (Decides-interface_byte c) (Decides-eqb c 45)
-Decides-goes_on Numbered c = Decides-or (is_ascii_alphanumeric c || c == 95) (c == 45) (Decides-interface_byte c) (Decides-eqb c 45)
+Decides-goes_on Dashed c =
+    Decides-or (is_ascii_alphanumeric c || c == 95) (c == 45) (Decides-interface_byte c) (Decides-eqb c 45)
+Decides-goes_on Numbered c =
+    Decides-or (is_ascii_alphanumeric c || c == 95) (c == 45) (Decides-interface_byte c) (Decides-eqb c 45)
 
 -- a first byte is a later one that is no digit, but in the names of connections
 starts-goes_on : (form : Form) (c : ℕ) → starts form c ≡ true → goes_on form c ≡ true
@@ -64,7 +71,10 @@ starts-first Numbered c e = tt
 
 digit-not : (c : ℕ) → ¬ IsDigit c → (nat_le 48 c && nat_le c 57) ≡ false
 digit-not c h =
-    not-true (nat_le 48 c && nat_le c 57) ((Decides-not (nat_le 48 c && nat_le c 57) (Decides-and (nat_le 48 c) (nat_le c 57) (Decides-nat_le 48 c) (Decides-nat_le c 57))).1 h)
+    not-true (nat_le 48 c && nat_le c 57)
+    ((Decides-not (nat_le 48 c && nat_le c 57)
+    (Decides-and (nat_le 48 c) (nat_le c 57) (Decides-nat_le 48 c) (Decides-nat_le c 57))).1
+    h)
 
 first-starts : (form : Form) (c : ℕ) → goes_on form c ≡ true → IsFirst form c → starts form c ≡ true
 first-starts Plain c e h = let d = digit-not c h in grind (arith, nat_tests)
@@ -112,7 +122,8 @@ Decides-is_element form text = (element-to form text, element-from form text)
 
 Decides-list_all : (form : Form) (es : List (List ℕ)) → Decides (list_all (is_element form) es) (All (IsPart form) es)
 Decides-list_all form es =
-    Decides-by_and (is_element form) (IsPart form) (list_all (is_element form)) (Decides-is_element form) refl (λ _ _. refl) es
+    Decides-by_and (is_element form) (IsPart form) (list_all (is_element form)) (Decides-is_element form) refl
+    (λ _ _. refl) es
 
 -- no byte of an element is a dot
 pub goes_on-dot : (form : Form) (c : ℕ) → goes_on form c ≡ true → (c == 46) ≡ false
@@ -128,32 +139,47 @@ starts-dot Numbered c e = grind (arith, nat_tests)
 rest-dotless : (form : Form) (cs : List ℕ) → list_all (goes_on form) cs ≡ true → list_all (λ c. not (c == 46)) cs ≡ true
 rest-dotless form [] e = refl
 rest-dotless form (c ∷ cs) e =
-    rw (goes_on-dot form c (first_so (goes_on form c) (list_all (goes_on form) cs) e), rest-dotless form cs (second_so (goes_on form c) (list_all (goes_on form) cs) e)) refl
+    rw (
+      goes_on-dot form c (first_so (goes_on form c) (list_all (goes_on form) cs) e),
+      rest-dotless form cs (second_so (goes_on form c) (list_all (goes_on form) cs) e),
+    )
+    refl
 
 dotless : (form : Form) (text : List ℕ) → is_element form text ≡ true → list_all (λ c. not (c == 46)) text ≡ true
 dotless form [] e = refl
 dotless form (c ∷ cs) e =
-    rw (starts-dot form c (first_so (starts form c) (list_all (goes_on form) cs) e), rest-dotless form cs (second_so (starts form c) (list_all (goes_on form) cs) e)) refl
+    rw (
+      starts-dot form c (first_so (starts form c) (list_all (goes_on form) cs) e),
+      rest-dotless form cs (second_so (starts form c) (list_all (goes_on form) cs) e),
+    )
+    refl
 
 All-dotless : (form : Form) (text : List ℕ) → is_element form text ≡ true → All (λ c. (c == 46) ≡ false) text
 All-dotless form text e k d h =
-    not-true (slice_index_or text k d == 46) (AllPass-from_list_all (λ c. not (c == 46)) text (dotless form text e) k d h)
+    not-true (slice_index_or text k d == 46)
+    (AllPass-from_list_all (λ c. not (c == 46)) text (dotless form text e) k d h)
 
 -- elements that are joined are found again
-elements-join : (form : Form) (e : List ℕ) (es : List (List ℕ)) → list_all (is_element form) (e ∷ es) ≡ true → elements (join_with_byte 46 (e ∷ es)) ≡ e ∷ es
+elements-join : (form : Form) (e : List ℕ) (es : List (List ℕ)) → list_all (is_element form) (e ∷ es) ≡ true
+    → elements (join_with_byte 46 (e ∷ es)) ≡ e ∷ es
 elements-join form e [] h =
     slice_split_none (λ c. c == 46) e (All-dotless form e (first_so (is_element form e) true h))
 elements-join form e (f ∷ fs) h =
-    slice_split_at (λ c. c == 46) e 46 (join_with_byte 46 (f ∷ fs)) (All-dotless form e (first_so (is_element form e) (list_all (is_element form) (f ∷ fs)) h)) refl ∙ ap (λ r. e ∷ r) (elements-join form f fs (second_so (is_element form e) (list_all (is_element form) (f ∷ fs)) h))
+    slice_split_at (λ c. c == 46) e 46 (join_with_byte 46 (f ∷ fs))
+    (All-dotless form e (first_so (is_element form e) (list_all (is_element form) (f ∷ fs)) h)) refl
+    ∙ ap (λ r. e ∷ r)
+    (elements-join form f fs (second_so (is_element form e) (list_all (is_element form) (f ∷ fs)) h))
 
 dotted-to : (form : Form) (text : List ℕ) → is_dotted form text ≡ true → IsDotted (IsPart form) text
 dotted-to form text e =
     let long = Decides-nat_le 2 (length (elements text)) in
     let all = Decides-list_all form (elements text) in
-    let h = (Decides-and (nat_le 2 (length (elements text))) (list_all (is_element form) (elements text)) long all).0 e in
+    let h =
+    (Decides-and (nat_le 2 (length (elements text))) (list_all (is_element form) (elements text)) long all).0 e in
     (elements text, h.0, h.1, sym (join_with_byte-slice_split 46 text))
 
-dotted-from : (form : Form) (es : List (List ℕ)) → 2 ≤ length es → All (IsPart form) es → is_dotted form (join_with_byte 46 es) ≡ true
+dotted-from : (form : Form) (es : List (List ℕ)) → 2 ≤ length es → All (IsPart form) es
+    → is_dotted form (join_with_byte 46 es) ≡ true
 dotted-from form [] two all = search rules
 dotted-from form (e ∷ es) two all =
     let passes = (Decides-list_all form (e ∷ es)).1 all in
@@ -202,4 +228,5 @@ Decides-is_unique_name text =
 
 pub Decides-is_bus_name : (text : List ℕ) → Decides (is_bus_name text) (IsBusName text)
 Decides-is_bus_name text =
-    Decides-or (is_unique_name text) (is_well_known_name text) (Decides-is_unique_name text) (Decides-is_well_known_name text)
+    Decides-or (is_unique_name text) (is_well_known_name text) (Decides-is_unique_name text)
+    (Decides-is_well_known_name text)

@@ -2,7 +2,8 @@
 
 ghost use Rattle.std.specs.Prelude.{◌≡◌, ◌↔◌, IsTrue, Some, string_bytes};
 ghost use Rattle.bus_names.specs.Answers.{Copies};
-ghost use Rattle.bus_names.specs.BusNames.{CopiesBus, GivesUnique, GivesWellKnown, ReadsBus, TakesBus, lent, owned_of, text_of};
+ghost use Rattle.bus_names.specs.BusNames.{CopiesBus, GivesUnique, GivesWellKnown};
+ghost use Rattle.bus_names.specs.BusNames.{ReadsBus, TakesBus, lent, owned_of, text_of};
 ghost use Rattle.bus_names.specs.Grammar.{is_bus_name};
 ghost use Rattle.bus_names.specs.ValidNames.{IsBusName};
 

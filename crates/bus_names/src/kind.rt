@@ -1,9 +1,12 @@
 //! The kinds of names. Each is a type without values, which a name has as its parameter.
 
 ghost use Rattle.std.specs.Prelude.{◌≡◌, ℕ, Bool, List, IsTrue, false, ◌↔◌};
-ghost use Rattle.bus_names.specs.ValidNames.{IsErrorName, IsInterfaceName, IsMemberName, IsPropertyName, IsUniqueName, IsWellKnownName};
-ghost use Rattle.bus_names.specs.Decides.{Decides-is_error_name, Decides-is_interface_name, Decides-is_member_name, Decides-is_property_name, Decides-is_unique_name, Decides-is_well_known_name};
-ghost use Rattle.bus_names.specs.Grammar.{is_error_name, is_interface_name, is_member_name, is_property_name, is_unique_name, is_well_known_name};
+ghost use Rattle.bus_names.specs.ValidNames.{IsErrorName, IsInterfaceName, IsMemberName};
+ghost use Rattle.bus_names.specs.ValidNames.{IsPropertyName, IsUniqueName, IsWellKnownName};
+ghost use Rattle.bus_names.specs.Decides.{Decides-is_error_name, Decides-is_interface_name, Decides-is_member_name};
+ghost use Rattle.bus_names.specs.Decides.{Decides-is_property_name, Decides-is_unique_name, Decides-is_well_known_name};
+ghost use Rattle.bus_names.specs.Grammar.{is_error_name, is_interface_name, is_member_name};
+ghost use Rattle.bus_names.specs.Grammar.{is_property_name, is_unique_name, is_well_known_name};
 ghost use Rattle.bus_names.specs.Refusals.{no_error, no_interface, no_member, no_property, no_unique, no_well_known};
 
 use crate::grammar::{Form, is_connection, is_dotted, is_element};

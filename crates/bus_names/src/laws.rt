@@ -12,7 +12,8 @@ ghost use Rattle.bus_names.specs.BusNames.{lent};
 ghost use Rattle.bus_names.specs.Errors.{variant};
 ghost use Rattle.bus_names.specs.Answers.{Reads};
 ghost use Rattle.bus_names.specs.Refusals.{no_error, no_interface, no_member, no_property, no_unique, no_well_known};
-ghost use Rattle.bus_names.specs.ValidNames.{IsBusName, IsErrorName, IsInterfaceName, IsMemberName, IsPropertyName, IsUniqueName, IsWellKnownName};
+ghost use Rattle.bus_names.specs.ValidNames.{IsBusName, IsErrorName, IsInterfaceName, IsMemberName};
+ghost use Rattle.bus_names.specs.ValidNames.{IsPropertyName, IsUniqueName, IsWellKnownName};
 ghost use Rattle.bus_names.specs.Grammar.{is_bus_name, is_error_name, is_interface_name};
 
 use crate::bus_name::{BusName, OwnedBusName};
@@ -202,19 +203,28 @@ pub fn owned_names_compare_as_texts<K: Kind>()
 /// Lent bus names are equal, ordered and hashed by kind and then text, unique ones first.
 pub fn bus_names_compare_by_kind_and_text()
     ensures equal { (a b : Lent) → IsTrue (⟦<BusName<'static> as PartialEq>⟧.eq a b) ↔ (a ≡ b) }
-    ensures unique_first { (x y : List ℕ) → ⟦<BusName<'static> as Ord>⟧.cmp (BusName.Unique x) (BusName.WellKnown y) ≡ Less }
-    ensures well_known_last { (x y : List ℕ) → ⟦<BusName<'static> as Ord>⟧.cmp (BusName.WellKnown x) (BusName.Unique y) ≡ Greater }
-    ensures unique_by_text { (x y : List ℕ) → ⟦<BusName<'static> as Ord>⟧.cmp (BusName.Unique x) (BusName.Unique y) ≡ slice_cmp nat_cmp x y }
-    ensures well_known_by_text { (x y : List ℕ) → ⟦<BusName<'static> as Ord>⟧.cmp (BusName.WellKnown x) (BusName.WellKnown y) ≡ slice_cmp nat_cmp x y }
-    ensures hash_unique { (x : List ℕ) → ⟦<BusName<'static> as Hash>⟧.hash_input (BusName.Unique x) ≡ fed.isize (pos 0) ++ fed.str x }
-    ensures hash_well_known { (x : List ℕ) → ⟦<BusName<'static> as Hash>⟧.hash_input (BusName.WellKnown x) ≡ fed.isize (pos 1) ++ fed.str x }
+    ensures unique_first { (x y : List ℕ)
+        → ⟦<BusName<'static> as Ord>⟧.cmp (BusName.Unique x) (BusName.WellKnown y) ≡ Less }
+    ensures well_known_last { (x y : List ℕ)
+        → ⟦<BusName<'static> as Ord>⟧.cmp (BusName.WellKnown x) (BusName.Unique y) ≡ Greater }
+    ensures unique_by_text { (x y : List ℕ)
+        → ⟦<BusName<'static> as Ord>⟧.cmp (BusName.Unique x) (BusName.Unique y) ≡ slice_cmp nat_cmp x y }
+    ensures well_known_by_text { (x y : List ℕ)
+        → ⟦<BusName<'static> as Ord>⟧.cmp (BusName.WellKnown x) (BusName.WellKnown y) ≡ slice_cmp nat_cmp x y }
+    ensures hash_unique { (x : List ℕ)
+        → ⟦<BusName<'static> as Hash>⟧.hash_input (BusName.Unique x) ≡ fed.isize (pos 0) ++ fed.str x }
+    ensures hash_well_known { (x : List ℕ)
+        → ⟦<BusName<'static> as Hash>⟧.hash_input (BusName.WellKnown x) ≡ fed.isize (pos 1) ++ fed.str x }
 {}
 
 /// Owned bus names are equal, ordered and hashed as lent ones.
 pub fn owned_bus_names_compare_as_lent()
-    ensures equal { (a b : Owned) → ⟦<OwnedBusName as PartialEq>⟧.eq a b ≡ ⟦<BusName<'static> as PartialEq>⟧.eq (lent a) (lent b) }
-    ensures order { (a b : Owned) → ⟦<OwnedBusName as Ord>⟧.cmp a b ≡ ⟦<BusName<'static> as Ord>⟧.cmp (lent a) (lent b) }
-    ensures hash { (a : Owned) → ⟦<OwnedBusName as Hash>⟧.hash_input a ≡ ⟦<BusName<'static> as Hash>⟧.hash_input (lent a) }
+    ensures equal { (a b : Owned)
+        → ⟦<OwnedBusName as PartialEq>⟧.eq a b ≡ ⟦<BusName<'static> as PartialEq>⟧.eq (lent a) (lent b) }
+    ensures order { (a b : Owned)
+        → ⟦<OwnedBusName as Ord>⟧.cmp a b ≡ ⟦<BusName<'static> as Ord>⟧.cmp (lent a) (lent b) }
+    ensures hash { (a : Owned)
+        → ⟦<OwnedBusName as Hash>⟧.hash_input a ≡ ⟦<BusName<'static> as Hash>⟧.hash_input (lent a) }
 {}
 
 /// Two errors are equal where they are of the same variant.

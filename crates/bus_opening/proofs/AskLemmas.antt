@@ -23,7 +23,9 @@ ask_from-now talk b w zero j a e = rw e refl
 ask_from-now talk b w (suc k) j a e = rw e refl
 
 -- lines that ask for nothing are passed over
-pub ask_from-skip : (m : ℕ) (talk : List (List ℕ) → Said) (b : List ℕ) (w k j : ℕ) → m ≤ k → ((i : ℕ) → i < m → ask_now talk b w (k - i) (j + i) ≡ None) → ask_from talk b w k j ≡ ask_from talk b w (k - m) (j + m)
+pub ask_from-skip : (m : ℕ) (talk : List (List ℕ) → Said) (b : List ℕ) (w k j : ℕ) → m ≤ k
+    → ((i : ℕ) → i < m → ask_now talk b w (k - i) (j + i) ≡ None)
+    → ask_from talk b w k j ≡ ask_from talk b w (k - m) (j + m)
 unfolding ask_from
 ask_from-skip zero talk b w k j le none =
     let e1 : k - 0 ≡ k = omega arith in

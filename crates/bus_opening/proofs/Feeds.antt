@@ -27,7 +27,9 @@ first_line (c ∷ y) h = first_of_feed (eqb c 10) c y refl (first_line y) h
 none_onto : (c : ℕ) (w : List (List ℕ)) (r : List ℕ) → w ≡ [] → (onto_line c w r).whole ≡ []
 none_onto c w r e = rw e refl
 
-none_of_feed : (b : Bool) (c : ℕ) (bytes : List ℕ) → eqb c 10 ≡ b → (length bytes ≤ feed_at bytes → (lines bytes).whole ≡ []) → length (c ∷ bytes) ≤ feed_at (c ∷ bytes) → (lines (c ∷ bytes)).whole ≡ []
+none_of_feed : (b : Bool) (c : ℕ) (bytes : List ℕ) → eqb c 10 ≡ b
+    → (length bytes ≤ feed_at bytes → (lines bytes).whole ≡ []) → length (c ∷ bytes) ≤ feed_at (c ∷ bytes)
+    → (lines (c ∷ bytes)).whole ≡ []
 none_of_feed true c bytes e others h = absurd (omega (arith, (rw e at h)))
 none_of_feed false c bytes e others h =
     let n : feed_at (c ∷ bytes) ≡ suc (feed_at bytes) = rw e (omega arith) in

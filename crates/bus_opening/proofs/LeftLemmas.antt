@@ -11,7 +11,9 @@ unfolding looked_from
 looked_from-now talks b w zero j a e = refl
 looked_from-now talks b w (suc k) j a e = rw e refl
 
-looked_from-skip : (m : ℕ) (talks : List (List ℕ) → Said) (b : List ℕ) (w k j : ℕ) → m ≤ k → ((i : ℕ) → i < m → ask_now talks b w (k - i) (j + i) ≡ None) → looked_from talks b w k j ≡ looked_from talks b w (k - m) (j + m)
+looked_from-skip : (m : ℕ) (talks : List (List ℕ) → Said) (b : List ℕ) (w k j : ℕ) → m ≤ k
+    → ((i : ℕ) → i < m → ask_now talks b w (k - i) (j + i) ≡ None)
+    → looked_from talks b w k j ≡ looked_from talks b w (k - m) (j + m)
 unfolding looked_from
 looked_from-skip zero talks b w k j le none =
     let e1 : k - 0 ≡ k = omega arith in
@@ -38,7 +40,11 @@ unfolding left
 left_is side b o a s e =
     let skip = looked_from-skip o.count (talk side) b (length o.written) command_limit 0 s.few (λ i h. let z : 0 + i ≡ i = omega arith in rw z (s.passed i h)) in
     let z : 0 + o.count ≡ o.count = omega arith in
-    ap (λ (j : ℕ). following j b) (skip ∙ ap (λ (j : ℕ). looked_from (talk side) b (length o.written) (command_limit - o.count) j) z ∙ looked_from-now (talk side) b (length o.written) (command_limit - o.count) o.count a (here_is side b o s ∙ e)) ∙ sym s.rest
+    ap (λ (j : ℕ). following j b)
+    (skip ∙ ap (λ (j : ℕ). looked_from (talk side) b (length o.written) (command_limit - o.count) j) z
+    ∙ looked_from-now (talk side) b (length o.written) (command_limit - o.count) o.count a
+    (here_is side b o s ∙ e))
+    ∙ sym s.rest
 
 -- before any byte came it stands at its first pieces
 pub stands_first : {Phase : Type 0} (side : Side Phase) → Stands Phase side [] (record { turn = cut 0 (onto side.opening (goes [] side.start)); count = 0; rest = []; written = [] })

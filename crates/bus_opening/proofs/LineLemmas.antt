@@ -18,7 +18,8 @@ onto-take c (l ∷ ls) (m ∷ ms) r s e =
     rw (first, others) refl
 
 lines_by : (b : Bool) (c : ℕ) (l k : Lines) → take (length l.whole) k.whole ≡ l.whole
-    → take (length (cond b (record { whole = (10 ∷ []) ∷ l.whole; rest = l.rest }) (onto_line c l.whole l.rest)).whole) (cond b (record { whole = (10 ∷ []) ∷ k.whole; rest = k.rest }) (onto_line c k.whole k.rest)).whole
+    → take (length (cond b (record { whole = (10 ∷ []) ∷ l.whole; rest = l.rest }) (onto_line c l.whole l.rest)).whole)
+    (cond b (record { whole = (10 ∷ []) ∷ k.whole; rest = k.rest }) (onto_line c k.whole k.rest)).whole
     ≡ (cond b (record { whole = (10 ∷ []) ∷ l.whole; rest = l.rest }) (onto_line c l.whole l.rest)).whole
 lines_by true c l k e = ap (λ (ls : List (List ℕ)). (10 ∷ []) ∷ ls) e
 lines_by false c l k e = onto-take c l.whole k.whole l.rest k.rest e
@@ -32,7 +33,10 @@ onto-joined : (c : ℕ) (a : List (List ℕ)) (r : List ℕ) → concat (onto_li
 onto-joined c [] r = refl
 onto-joined c (l ∷ ls) r = refl
 
-joined_by : (b : Bool) (c : ℕ) (l : Lines) → (eqb c 10 ≡ b) → concat (cond b (record { whole = (10 ∷ []) ∷ l.whole; rest = l.rest }) (onto_line c l.whole l.rest)).whole ++ (cond b (record { whole = (10 ∷ []) ∷ l.whole; rest = l.rest }) (onto_line c l.whole l.rest)).rest ≡ c ∷ (concat l.whole ++ l.rest)
+joined_by : (b : Bool) (c : ℕ) (l : Lines) → (eqb c 10 ≡ b)
+    → concat (cond b (record { whole = (10 ∷ []) ∷ l.whole; rest = l.rest }) (onto_line c l.whole l.rest)).whole
+    ++ (cond b (record { whole = (10 ∷ []) ∷ l.whole; rest = l.rest }) (onto_line c l.whole l.rest)).rest
+    ≡ c ∷ (concat l.whole ++ l.rest)
 joined_by true c l e = ap (λ (d : ℕ). d ∷ (concat l.whole ++ l.rest)) (sym (eqb-true c 10 e))
 joined_by false c l e = onto-joined c l.whole l.rest
 

@@ -54,10 +54,13 @@ turn_quiet (stage.Done g f) [] place e h = absurd cc
 turn_quiet stage.Refused [] place e h = absurd cc
 turn_quiet s (p ∷ ps) place e h = absurd (omega (arith, h))
 
-pub same_standing : (side : Side Place) (b : List ℕ) (t u : Turn Place) (i j : ℕ) (x y z w : List ℕ) → t ≡ u → i ≡ j → x ≡ y → z ≡ w → Stands Place side b (record { turn = t; count = i; rest = x; written = z }) → Stands Place side b (record { turn = u; count = j; rest = y; written = w })
+pub same_standing : (side : Side Place) (b : List ℕ) (t u : Turn Place) (i j : ℕ) (x y z w : List ℕ) → t ≡ u → i ≡ j
+    → x ≡ y → z ≡ w → Stands Place side b (record { turn = t; count = i; rest = x; written = z })
+    → Stands Place side b (record { turn = u; count = j; rest = y; written = w })
 same_standing side b t u i j x y z w e f g h s = rw (sym e, sym f, sym g, sym h) s
 
-stands_line : (o p : Opening) (feed : ℕ) (place : Place) (talks : List (List ℕ) → Said) (b : List ℕ) → MayLook o feed → place_of o.stage ≡ Some place → Looked place o p → StandsIn talks b o → StandsIn talks b p
+stands_line : (o p : Opening) (feed : ℕ) (place : Place) (talks : List (List ℕ) → Said) (b : List ℕ) → MayLook o feed
+    → place_of o.stage ≡ Some place → Looked place o p → StandsIn talks b o → StandsIn talks b p
 stands_line o p feed place talks b m e l st =
     let s = stands_looked st.side b (standing o) place (turn_quiet o.stage o.waiting place e m.quiet) m.few
     (le-ltb line_limit (feed_at o.rest) (omega (arith, m.at_feed, m.short))) (lt-ltb (feed_at o.rest) (length o.rest) (omega (arith, m.at_feed, m.whole))) st.stands in
@@ -65,7 +68,11 @@ stands_line o p feed place talks b m e l st =
       side = st.side;
       talks_so = st.talks_so;
       steps_so = st.steps_so ∙ ap (λ (t : Part). step_at t) (sym l.part);
-      stands = same_standing st.side b _ _ _ _ _ _ _ _ (ap (λ (f : Place → List ℕ → Turn Place). cut 0 (f place (take (feed_at o.rest + 1) o.rest))) st.steps_so ∙ sym l.turn) (sym l.count) (sym l.rest) (sym l.written) s;
+      stands =
+          same_standing st.side b _ _ _ _ _ _ _ _
+          (ap (λ (f : Place → List ℕ → Turn Place). cut 0 (f place (take (feed_at o.rest + 1) o.rest))) st.steps_so
+          ∙ sym l.turn)
+          (sym l.count) (sym l.rest) (sym l.written) s;
     }
 
 pub looks_on : (Origin : Type 0) (wire : ℕ) (o q p : Opening) (feed : ℕ) (u : Outer Origin) → q ≡ o → MayLook o feed → Looks q p → RunsOpening Origin wire o p u u × (left_over p < left_over o)
@@ -94,7 +101,9 @@ whole_piece bytes = rests-piece bytes 0 (omega arith)
 abbrev pub after_line : Opening → Stage → List ℕ → ℕ → Opening
 after_line o s bytes feed = record { part = o.part; stage = s; waiting = piece bytes; count = o.count + 1; rest = drop (feed + 1) o.rest; written = o.written; ended = o.ended }
 
-looked_so : (o p : Opening) (feed : ℕ) (s : Stage) (bytes line : List ℕ) → MayLook o feed → line ≡ take (feed + 1) o.rest → LineAnswered o.part o.stage line s bytes → p ≡ after_line o s bytes feed → Looks o p
+looked_so : (o p : Opening) (feed : ℕ) (s : Stage) (bytes line : List ℕ) → MayLook o feed
+    → line ≡ take (feed + 1) o.rest → LineAnswered o.part o.stage line s bytes → p ≡ after_line o s bytes feed
+    → Looks o p
 looked_so o p feed s bytes line m cutting a e = subst (λ (q : Opening). Looks o q) (sym e) (by_place (place_of o.stage) refl m.open_yet)
   where
     by_place : (x : Option Place) → place_of o.stage ≡ x → IsSome x → Looks o (after_line o s bytes feed)
@@ -112,7 +121,10 @@ looked_so o p feed s bytes line m cutting a e = subst (λ (q : Opening). Looks o
           },
         )
 
-same_opening : (p : Part) (s : Stage) (w x : List (List ℕ)) (n : ℕ) (y z u v : List ℕ) (d : Bool) → w ≡ x → y ≡ z → u ≡ v → Path Opening (record { part = p; stage = s; waiting = w; count = n; rest = y; written = u; ended = d }) (record { part = p; stage = s; waiting = x; count = n; rest = z; written = v; ended = d })
+same_opening : (p : Part) (s : Stage) (w x : List (List ℕ)) (n : ℕ) (y z u v : List ℕ) (d : Bool) → w ≡ x → y ≡ z
+    → u ≡ v
+    → Path Opening (record { part = p; stage = s; waiting = w; count = n; rest = y; written = u; ended = d })
+    (record { part = p; stage = s; waiting = x; count = n; rest = z; written = v; ended = d })
 same_opening p s w x n y z u v d e f g = rw (e, f, g) refl
 
 pub look_ok : (a : Inside) (o : Opening) (feed : ℕ) (line : List ℕ) (s : Stage) (bs items y : List ℕ) (z : Sending) → opening_of a ≡ o → MayLook o feed → line ≡ take (feed + 1) a.inbox

@@ -20,11 +20,15 @@ asked_then talk wire b w (e ∷ es) fs p q =
     (p.0, asked_then talk wire (b ++ bytes_got e) (w + length (bytes_taken e)) es fs p.1 (rw (n, g) at q))
 
 module _ (O : Type 0) (stands : (List (List ℕ) → Said) → List ℕ → O → Type 0) (written : O → List ℕ) (wire : ℕ) where
-  pub moves_then : (a b c : O) (r s t : Option (List Event)) (es fs : List Event) → Moves O stands written wire a b r s es → Moves O stands written wire b c s t fs → Moves O stands written wire a c r t (es ++ fs)
+  pub moves_then : (a b c : O) (r s t : Option (List Event)) (es fs : List Event)
+      → Moves O stands written wire a b r s es → Moves O stands written wire b c s t fs
+      → Moves O stands written wire a c r t (es ++ fs)
   moves_then a b c r s t es fs p q = record {
     gained = q.gained ∙ ap (λ (x : Option (List Event)). told x fs) p.gained ∙ told-told r es fs;
     asked = λ talk h st. asked_then talk wire h (length (written a)) es fs (p.asked talk h st)
-        (subst (λ (n : ℕ). AreAsked talk wire (h ++ flat_map bytes_got es) n fs) (ap length p.taken ∙ length-append (written a) (flat_map bytes_taken es)) (q.asked talk (h ++ flat_map bytes_got es) (p.stays talk h st)));
+        (subst (λ (n : ℕ). AreAsked talk wire (h ++ flat_map bytes_got es) n fs)
+        (ap length p.taken ∙ length-append (written a) (flat_map bytes_taken es))
+        (q.asked talk (h ++ flat_map bytes_got es) (p.stays talk h st)));
     stays = λ talk h st. subst (λ (x : List ℕ). stands talk x c) (append_assoc h (flat_map bytes_got es) (flat_map bytes_got fs) ∙ ap (λ (x : List ℕ). h ++ x) (sym (flat_map-append bytes_got es fs)))
         (q.stays talk (h ++ flat_map bytes_got es) (p.stays talk h st));
     taken = q.taken ∙ ap (λ (x : List ℕ). x ++ flat_map bytes_taken fs) p.taken ∙ append_assoc (written a) (flat_map bytes_taken es) (flat_map bytes_taken fs)
@@ -32,7 +36,12 @@ module _ (O : Type 0) (stands : (List (List ℕ) → Said) → List ℕ → O �
   }
 
   pub moves_nothing : (a : O) (r : Option (List Event)) → Moves O stands written wire a a r r []
-  moves_nothing a r = record { gained = told-nothing r; asked = λ talk h st. tt; stays = λ talk h st. subst (λ (x : List ℕ). stands talk x a) (sym (append-nil h)) st; taken = sym (append-nil (written a)) }
+  moves_nothing a r = record {
+    gained = told-nothing r;
+    asked = λ talk h st. tt;
+    stays = λ talk h st. subst (λ (x : List ℕ). stands talk x a) (sym (append-nil h)) st;
+    taken = sym (append-nil (written a));
+  }
 
   all_then : (es fs : List Event) → AllMoved es → AllMoved fs → AllMoved (es ++ fs)
   all_then [] fs p q = q
@@ -41,7 +50,8 @@ module _ (O : Type 0) (stands : (List (List ℕ) → Said) → List ℕ → O �
   pub runs_nothing : (a : O) (r : Option (List Event)) → Runs O stands written wire a a r r
   runs_nothing a r = record { events = []; moved = tt; moves = moves_nothing a r }
 
-  pub runs_more : (a b c : O) (r s t : Option (List Event)) (fs : List Event) → Runs O stands written wire a b r s → AllMoved fs → Moves O stands written wire b c s t fs → Runs O stands written wire a c r t
+  pub runs_more : (a b c : O) (r s t : Option (List Event)) (fs : List Event) → Runs O stands written wire a b r s
+      → AllMoved fs → Moves O stands written wire b c s t fs → Runs O stands written wire a c r t
   runs_more a b c r s t fs p all q = record { events = p.events ++ fs; moved = all_then p.events fs p.moved all; moves = moves_then a b c r s t p.events fs p.moves q }
 
   pub runs_then : (a b c : O) (r s t : Option (List Event)) → Runs O stands written wire a b r s → Runs O stands written wire b c s t → Runs O stands written wire a c r t
@@ -52,7 +62,8 @@ module _ (O : Type 0) (stands : (List (List ℕ) → Said) → List ℕ → O �
       → Concludes (Asks O stands written c) wire answer fs → Polls O stands written wire a c r t answer
   polls_by a b c r s t fs answer p q end = record { events = p.events; final = fs; moved = p.moved; moves = moves_then a b c r s t p.events fs p.moves q; concludes = end }
 
-  pub polls_then : (a b c : O) (r s t : Option (List Event)) (answer : Step) → Runs O stands written wire a b r s → Polls O stands written wire b c s t answer → Polls O stands written wire a c r t answer
+  pub polls_then : (a b c : O) (r s t : Option (List Event)) (answer : Step) → Runs O stands written wire a b r s
+      → Polls O stands written wire b c s t answer → Polls O stands written wire a c r t answer
   polls_then a b c r s t answer p q = record {
     events = p.events ++ q.events;
     final = q.final;

@@ -73,7 +73,10 @@ stands_after talks b o n le st =
       side = st.side;
       talks_so = st.talks_so;
       steps_so = st.steps_so;
-      stands = subst (λ (t : Turn Place). Stands Place st.side b (record (standing o) { turn = t; written = o.written ++ bytes })) (ap (λ (i : ℕ). cut i (turn_of o.stage o.waiting)) len ∙ sym (turn_cut o.stage o.waiting n)) s;
+      stands =
+          subst (λ (t : Turn Place).
+          Stands Place st.side b (record (standing o) { turn = t; written = o.written ++ bytes }))
+          (ap (λ (i : ℕ). cut i (turn_of o.stage o.waiting)) len ∙ sym (turn_cut o.stage o.waiting n)) s;
     }
 
 same_place : (talks : List (List ℕ) → Said) (b : List ℕ) (o : Opening) → StandsIn talks b o → StandsIn talks (b ++ []) o
@@ -119,16 +122,21 @@ opening_sent wire o p z r s x e h bound gained f =
     subst (λ (q : Opening). MovesOpening wire q (with_sending o z) r s (send_told wire (first_piece q.waiting) x)) e
     (subst (λ (y : Sending). MovesOpening wire o (with_sending o y) r s (send_told wire (first_piece o.waiting) x)) (sym f) m)
 
-sends_less : (z : Sending) (x : Result Sent Fault) → 0 < length z.waiting → 0 < length (first_piece z.waiting) → IfOk x (IsSent (length (first_piece z.waiting))) → SendsLess z.waiting (after_sent z x).waiting x
+sends_less : (z : Sending) (x : Result Sent Fault) → 0 < length z.waiting → 0 < length (first_piece z.waiting)
+    → IfOk x (IsSent (length (first_piece z.waiting))) → SendsLess z.waiting (after_sent z x).waiting x
 sends_less z (Ok (sent.Took n)) h some bound = omega (arith, rests-left z.waiting n, bound.0, first_within z.waiting, some)
 sends_less z (Ok sent.NotReady) h some bound = h
 sends_less z (Err e) h some bound = h
 
-pub opening_less : (o p : Opening) (z : Sending) (x : Result Sent Fault) → o ≡ p → 0 < length p.waiting → 0 < length (first_piece o.waiting) → IfOk x (IsSent (length (first_piece o.waiting))) → z ≡ after_sent (sending_of o) x → SendsLess p.waiting z.waiting x
+pub opening_less : (o p : Opening) (z : Sending) (x : Result Sent Fault) → o ≡ p → 0 < length p.waiting
+    → 0 < length (first_piece o.waiting) → IfOk x (IsSent (length (first_piece o.waiting)))
+    → z ≡ after_sent (sending_of o) x → SendsLess p.waiting z.waiting x
 opening_less o p z x e h some bound f = subst (λ (q : Opening). SendsLess q.waiting z.waiting x) e
     (subst (λ (y : Sending). SendsLess o.waiting y.waiting x) (sym f) (sends_less (sending_of o) x (subst (λ (q : Opening). 0 < length q.waiting) (sym e) h) some bound))
 
-pub same_then : (a b c : Opening) → b ≡ record a { waiting = b.waiting; written = b.written } → c ≡ record b { waiting = c.waiting; written = c.written } → c ≡ record a { waiting = c.waiting; written = c.written }
+pub same_then : (a b c : Opening) → b ≡ record a { waiting = b.waiting; written = b.written }
+    → c ≡ record b { waiting = c.waiting; written = c.written }
+    → c ≡ record a { waiting = c.waiting; written = c.written }
 same_then a b c p q = q ∙ ap (λ (x : Opening). record x { waiting = c.waiting; written = c.written }) p
 
 -- what is left over, where something is asked
@@ -170,9 +178,19 @@ module _ (Origin : Type 0) (wire : ℕ) where
   still_sends : (o : Opening) → 0 < length o.waiting → asks (standing o) ≡ Some (send (first_piece o.waiting))
   still_sends o h = asks_send o.stage o.waiting o.count o.rest o.written h
 
-  sent_alone : (o p : Opening) (u v : Outer Origin) (piece : List ℕ) (x : Result Sent Fault) → 0 < length piece → IfOk x (IsSent (length piece)) → MovesOpening wire o p u.events v.events (send_told wire piece x) → SendsLess o.waiting p.waiting x
+  sent_alone : (o p : Opening) (u v : Outer Origin) (piece : List ℕ) (x : Result Sent Fault) → 0 < length piece
+      → IfOk x (IsSent (length piece)) → MovesOpening wire o p u.events v.events (send_told wire piece x)
+      → SendsLess o.waiting p.waiting x
       → Counted x (u.wire_faults wire) (v.wire_faults wire) → Keeps (part.Wire wire) u v → SentOn o p u v x
-  sent_alone o p u v piece (Ok (sent.Took n)) some amount m less cause keeps = record { runs = record { events = send_told wire piece (Ok (sent.Took n)); moved = ((omega (arith, amount.0, some), amount.1), tt); moves = m }; count_stays = cause; keeps = keeps }
+  sent_alone o p u v piece (Ok (sent.Took n)) some amount m less cause keeps = record {
+    runs = record {
+      events = send_told wire piece (Ok (sent.Took n));
+      moved = ((omega (arith, amount.0, some), amount.1), tt);
+      moves = m;
+    };
+    count_stays = cause;
+    keeps = keeps;
+  }
   sent_alone o p u v piece (Ok sent.NotReady) some amount m less cause keeps = alone o p u v _ step.WantWrite m (piece, refl) (leaves_by p _ (still_sends p less)) cause keeps
   sent_alone o p u v piece (Err fault.Failed) some amount m less cause keeps = alone o p u v _ (step.Done verdict.Io) m (inr (piece, refl)) (leaves_by p _ (still_sends p less)) cause keeps
   sent_alone o p u v piece (Err fault.OutOfMemory) some amount m less cause keeps = alone o p u v _ step.OutOfMemory m refl (leaves_looked p) cause keeps
@@ -183,7 +201,9 @@ module _ (Origin : Type 0) (wire : ℕ) where
   after_run a b c u v x (Err fault.Failed) p q = polls_on a b c u v x _ p q
   after_run a b c u v x (Err fault.OutOfMemory) p q = polls_on a b c u v x _ p q
 
-  pub sent_on : (a b c : Opening) (u v x : Outer Origin) (piece : List ℕ) (r : Result Sent Fault) → RunsOpening Origin wire a b u v → 0 < length piece → IfOk r (IsSent (length piece)) → MovesOpening wire b c v.events x.events (send_told wire piece r)
+  pub sent_on : (a b c : Opening) (u v x : Outer Origin) (piece : List ℕ) (r : Result Sent Fault)
+      → RunsOpening Origin wire a b u v → 0 < length piece → IfOk r (IsSent (length piece))
+      → MovesOpening wire b c v.events x.events (send_told wire piece r)
       → SendsLess b.waiting c.waiting r → Counted r (v.wire_faults wire) (x.wire_faults wire) → Keeps (part.Wire wire) v x → SentOn a c u x r
   sent_on a b c u v x piece r p some amount m less cause keeps = after_run a b c u v x r p (sent_alone b c v x piece r some amount m less cause keeps)
 
@@ -232,19 +252,40 @@ module _ (Origin : Type 0) (wire : ℕ) where
   sized : (into : List ℕ) (a : RecvAnswer) → length into ≡ read_size → event.Recv wire (length into) a ∷ [] ≡ event.Recv wire read_size a ∷ []
   sized into a len = ap (λ (n : ℕ). event.Recv wire n a ∷ []) len
 
-  read_on : (o p : Opening) (u v : Outer Origin) (into : List ℕ) (x : Result Received Fault) → length into ≡ read_size → length o.rest ≤ line_limit → IfOk x (IsReceived read_size) → asks (standing o) ≡ Some recv
+  read_on : (o p : Opening) (u v : Outer Origin) (into : List ℕ) (x : Result Received Fault) → length into ≡ read_size
+      → length o.rest ≤ line_limit → IfOk x (IsReceived read_size) → asks (standing o) ≡ Some recv
       → v.events ≡ told u.events (recv_told wire into x) → p ≡ record o { rest = o.rest ++ flat_map bytes_got (recv_told wire into x) }
       → Counted x (u.wire_faults wire) (v.wire_faults wire) → Keeps (part.Wire wire) u v → ReadOn o p u v x
   read_on o p u v into (Ok (received.Got n)) len few bound e gained f cause keeps = (
-    record { runs = record { events = recv_told wire into (Ok (received.Got n)); moved = ((omega (arith, length-take n into, bound.0, bound.1, len), omega (arith, length-take n into, bound.1)), tt); moves = moves_read wire o p u.events v.events into (Ok (received.Got n)) len e gained f }; count_stays = cause; keeps = keeps },
+    record {
+      runs = record {
+        events = recv_told wire into (Ok (received.Got n));
+        moved = (
+          (
+            omega (arith, length-take n into, bound.0, bound.1, len),
+            omega (arith, length-take n into, bound.1),
+          ),
+          tt,
+        );
+        moves = moves_read wire o p u.events v.events into (Ok (received.Got n)) len e gained f;
+      };
+      count_stays = cause;
+      keeps = keeps;
+    },
     less_left o p (take n into ++ []) few (omega (arith, ap length (append-nil (take n into)), length-take n into, bound.1, bound.0, len)) f,
   )
   read_on o p u v into (Ok received.End) len few bound e gained f cause keeps =
-      alone Origin wire o p u v _ (step.Done verdict.Handshake) (moves_read wire o p u.events v.events into (Ok received.End) len e gained f) (inr (sized into recv_answer.End len)) (leaves_by p recv (still_reads o p f e)) cause keeps
+      alone Origin wire o p u v _ (step.Done verdict.Handshake)
+      (moves_read wire o p u.events v.events into (Ok received.End) len e gained f)
+      (inr (sized into recv_answer.End len)) (leaves_by p recv (still_reads o p f e)) cause keeps
   read_on o p u v into (Ok received.NotReady) len few bound e gained f cause keeps =
-      alone Origin wire o p u v _ step.WantRead (moves_read wire o p u.events v.events into (Ok received.NotReady) len e gained f) (sized into recv_answer.NotReady len) (leaves_by p recv (still_reads o p f e)) cause keeps
+      alone Origin wire o p u v _ step.WantRead
+      (moves_read wire o p u.events v.events into (Ok received.NotReady) len e gained f)
+      (sized into recv_answer.NotReady len) (leaves_by p recv (still_reads o p f e)) cause keeps
   read_on o p u v into (Err fault.Failed) len few bound e gained f cause keeps =
-      alone Origin wire o p u v _ (step.Done verdict.Io) (moves_read wire o p u.events v.events into (Err fault.Failed) len e gained f) (inl (sized into recv_answer.Failed len)) (leaves_by p recv (still_reads o p f e)) cause keeps
+      alone Origin wire o p u v _ (step.Done verdict.Io)
+      (moves_read wire o p u.events v.events into (Err fault.Failed) len e gained f)
+      (inl (sized into recv_answer.Failed len)) (leaves_by p recv (still_reads o p f e)) cause keeps
   read_on o p u v into (Err fault.OutOfMemory) len few bound e gained f cause keeps =
       alone Origin wire o p u v _ step.OutOfMemory (moves_read wire o p u.events v.events into (Err fault.OutOfMemory) len e gained f) refl (leaves_looked p) cause keeps
 

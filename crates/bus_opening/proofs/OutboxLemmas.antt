@@ -33,7 +33,8 @@ first_of_piece : (ys : List ℕ) → first_piece (piece ys) ≡ ys
 first_of_piece [] = refl
 first_of_piece (c ∷ ys) = refl
 
-marked_by : (said : List ℕ) (t n e : ℕ) → e ≤ length said → t ≤ length said → (b d : Bool) → ltb t e ≡ b → ltb (t + n) e ≡ d → n ≤ length (first_piece (waiting_of said t e)) → Marked said t n e (waiting_of said t e)
+marked_by : (said : List ℕ) (t n e : ℕ) → e ≤ length said → t ≤ length said → (b d : Bool) → ltb t e ≡ b
+    → ltb (t + n) e ≡ d → n ≤ length (first_piece (waiting_of said t e)) → Marked said t n e (waiting_of said t e)
 marked_by said t n e le tl true true f g bound =
     let m : length (take (e - t) (drop t said)) ≡ e - t = omega (arith, length-take (e - t) (drop t said), length-drop t said, le) in
     let lt : ltb n (length (take (e - t) (drop t said))) ≡ true = lt-ltb _ _ (omega (arith, m, ltb-true _ _ g)) in

@@ -1,5 +1,7 @@
 -- An opening that stands: what is asked, and where it stands next.
-use Rattle.std.proofs.Common.{◌≡◌, ℕ, suc, ◌+◌, ◌-◌, ◌<◌, ◌≤◌, Bool, true, false, cond, ltb, List, [], ◌∷◌, ◌++◌, length, take, drop, Option, Some, None, refl, sym, ap, ◌∙◌, arith, append_assoc, length-append, length-drop, ◌⊎◌, inl, inr}
+use Rattle.std.proofs.Common.{◌≡◌, ℕ, suc, ◌+◌, ◌-◌, ◌<◌, ◌≤◌, Bool, true, false, cond, ltb, List}
+use Rattle.std.proofs.Common.{[], ◌∷◌, ◌++◌, length, take, drop, Option, Some, None, refl, sym, ap}
+use Rattle.std.proofs.Common.{◌∙◌, arith, append_assoc, length-append, length-drop, ◌⊎◌, inl, inr}
 use Rattle.std.specs.Prelude.{sum_by}
 use Rattle.std.proofs.lemmas.Bool.{ltb-false, ltb-true, le-ltb, lt-ltb}
 use Rattle.std.proofs.lemmas.List.{length-take, drop-drop, append-nil}
@@ -46,7 +48,8 @@ rests-behind [] qs w none le =
 rests-behind (p ∷ ps) qs w none le = behind_by w p ps qs (rests-behind ps qs) (ltb w (length p)) refl none le
 
 -- what is left is at most what was there
-left_by : (w : ℕ) (p : List ℕ) (ps : List (List ℕ)) → ((w : ℕ) → sum_by length (rests w ps) ≡ sum_by length ps - w) → (c : Bool) → ltb w (length p) ≡ c → sum_by length (rests w (p ∷ ps)) ≡ sum_by length (p ∷ ps) - w
+left_by : (w : ℕ) (p : List ℕ) (ps : List (List ℕ)) → ((w : ℕ) → sum_by length (rests w ps) ≡ sum_by length ps - w)
+    → (c : Bool) → ltb w (length p) ≡ c → sum_by length (rests w (p ∷ ps)) ≡ sum_by length (p ∷ ps) - w
 left_by w p ps others true e = rw e (omega (arith, sum_by-cons length (drop w p) ps, sum_by-cons length p ps, length-drop w p, ltb-true _ _ e))
 left_by w p ps others false e = rw e (omega (arith, others (w - length p), sum_by-cons length p ps, ltb-false _ _ e))
 
@@ -67,7 +70,9 @@ pieces_by w p ps o others true e =
     rw (lt, e) refl
 pieces_by w p ps o others false e = rw e (same_test (ltb w (sum_by length (p ∷ ps))) (ltb (w - length p) (sum_by length ps)) refl refl)
   where
-    same_test : (c d : Bool) → ltb w (sum_by length (p ∷ ps)) ≡ c → ltb (w - length p) (sum_by length ps) ≡ d → cond (ltb w (sum_by length (p ∷ ps))) (Some (send (piece_rest (w - length p) ps))) o ≡ first_or (rests (w - length p) ps) o
+    same_test : (c d : Bool) → ltb w (sum_by length (p ∷ ps)) ≡ c → ltb (w - length p) (sum_by length ps) ≡ d
+        → cond (ltb w (sum_by length (p ∷ ps))) (Some (send (piece_rest (w - length p) ps))) o
+        ≡ first_or (rests (w - length p) ps) o
     same_test true true f g = rw f ((rw g at (others (w - length p))))
     same_test false false f g = rw f ((rw g at (others (w - length p))))
     same_test true false f g = absurd (omega (arith, ltb-true _ _ f, ltb-false _ _ g, ltb-false _ _ e, sum_by-cons length p ps))
@@ -88,7 +93,10 @@ unfolding first_or
 first_ends Phase [] s k y = refl
 first_ends Phase (p ∷ ps) s k y = refl
 
-ask_of_turn : {Phase : Type 0} (t : Turn Phase) (w k : ℕ) (y : List ℕ) → cond (ltb w (sum_by length (said_of t).pieces)) (Some (send (piece_rest w (said_of t).pieces))) (ask_by (said_of t).status k y) ≡ ask_turn (cut w t) k y
+ask_of_turn : {Phase : Type 0} (t : Turn Phase) (w k : ℕ) (y : List ℕ)
+    → cond (ltb w (sum_by length (said_of t).pieces)) (Some (send (piece_rest w (said_of t).pieces)))
+    (ask_by (said_of t).status k y)
+    ≡ ask_turn (cut w t) k y
 ask_of_turn (goes ps phase) w k y = ask_pieces ps (ask_more k y) w ∙ first_goes (rests w ps) phase k y
 ask_of_turn {Phase = Phase} (ends ps s) w k y = ask_pieces ps (ask_by s k y) w ∙ first_ends Phase (rests w ps) s k y
 
@@ -167,7 +175,9 @@ then-then : {Phase : Type 0} (t : Turn Phase) (f g : Phase → Turn Phase) (h : 
 then-then (goes ps phase) f g h e = ap (onto ps) (e phase) ∙ onto-then ps (f phase) h
 then-then (ends ps status) f g h e = refl
 
-turn_from-append : {Phase : Type 0} (step : Phase → List ℕ → Turn Phase) (ls : List (List ℕ)) (l : List ℕ) (phase : Phase) → turn_from step phase (ls ++ (l ∷ [])) ≡ then_turn (turn_from step phase ls) (λ p. step p l)
+turn_from-append : {Phase : Type 0} (step : Phase → List ℕ → Turn Phase) (ls : List (List ℕ)) (l : List ℕ)
+    (phase : Phase)
+    → turn_from step phase (ls ++ (l ∷ [])) ≡ then_turn (turn_from step phase ls) (λ p. step p l)
 turn_from-append step [] l phase = then-none (step phase l) ∙ sym (onto-none (step phase l))
 turn_from-append step (x ∷ ls) l phase = then-then (step phase x) (λ n. turn_from step n ls) (λ n. turn_from step n (ls ++ (l ∷ []))) (λ p. step p l) (turn_from-append step ls l)
 
@@ -193,16 +203,21 @@ before_or_last i j h = by_test (ltb i j) refl
     by_test true e = inl (ltb-true _ _ e)
     by_test false e = inr (omega (arith, ltb-false _ _ e, h))
 
-looks : {Phase : Type 0} (t : Turn Phase) (phase : Phase) (count : ℕ) (rest : List ℕ) → t ≡ goes [] phase → count < command_limit → long rest ≡ false → has_feed rest ≡ true → ask_turn t (command_limit - count) rest ≡ None
+looks : {Phase : Type 0} (t : Turn Phase) (phase : Phase) (count : ℕ) (rest : List ℕ) → t ≡ goes [] phase
+    → count < command_limit → long rest ≡ false → has_feed rest ≡ true → ask_turn t (command_limit - count) rest ≡ None
 looks t phase count rest e few short feed =
     let k : command_limit - count ≡ suc (63 - count) = omega arith in
     rw (e, k, short, feed) refl
 
-by_place : {Phase : Type 0} (side : Side Phase) (b : List ℕ) (w i j : ℕ) → (i < j) ⊎ (i ≡ j) → ask_now (talk side) b w (command_limit - j) j ≡ None → ((i : ℕ) → i < j → ask_now (talk side) b w (command_limit - i) i ≡ None) → ask_now (talk side) b w (command_limit - i) i ≡ None
+by_place : {Phase : Type 0} (side : Side Phase) (b : List ℕ) (w i j : ℕ) → (i < j) ⊎ (i ≡ j)
+    → ask_now (talk side) b w (command_limit - j) j ≡ None
+    → ((i : ℕ) → i < j → ask_now (talk side) b w (command_limit - i) i ≡ None)
+    → ask_now (talk side) b w (command_limit - i) i ≡ None
 by_place side b w i j (inl lt) here before = before i lt
 by_place side b w i j (inr e) here before = rw e here
 
-pub stands_looked : {Phase : Type 0} (side : Side Phase) (b : List ℕ) (o : Standing Phase) (phase : Phase) → o.turn ≡ goes [] phase → o.count < command_limit → long o.rest ≡ false → has_feed o.rest ≡ true
+pub stands_looked : {Phase : Type 0} (side : Side Phase) (b : List ℕ) (o : Standing Phase) (phase : Phase)
+    → o.turn ≡ goes [] phase → o.count < command_limit → long o.rest ≡ false → has_feed o.rest ≡ true
     → Stands Phase side b o → Stands Phase side b (record o { turn = cut 0 (side.step phase (take (feed_at o.rest + 1) o.rest)); count = o.count + 1; rest = drop (feed_at o.rest + 1) o.rest })
 stands_looked side b o phase e few short feed s =
     let n = next_line o.count b o.rest s.rest s.came (ltb-true _ _ feed) in
@@ -210,7 +225,8 @@ stands_looked side b o phase e few short feed s =
     let t = turn_after side (take o.count (lines b).whole) in
     let k : o.count + 1 ≡ suc o.count = omega arith in
     let m : feed_at o.rest + 1 ≡ suc (feed_at o.rest) = omega arith in
-    let after : turn_after side (take (suc o.count) (lines b).whole) ≡ then_turn t (λ p. side.step p line) = ap (turn_after side) n.first ∙ turn_after-append side (take o.count (lines b).whole) line in
+    let after : turn_after side (take (suc o.count) (lines b).whole) ≡ then_turn t (λ p. side.step p line) =
+    ap (turn_after side) n.first ∙ turn_after-append side (take o.count (lines b).whole) line in
     let c = cut-then t (length o.written) phase (λ p. side.step p line) (sym e ∙ s.turn) s.said in
     let here : ask_now (talk side) b (length o.written) (command_limit - o.count) o.count ≡ None = here_is side b o s ∙ looks o.turn phase o.count o.rest e few short feed in
     record {

@@ -48,24 +48,42 @@ first_by : (nonce : List ℕ) (c : ℕ) (line : List ℕ) → rests 0 ((piece no
 first_by [] c line = rw (lt-ltb 0 (length (c ∷ line)) (omega arith)) refl
 first_by (d ∷ nonce) c line = rw (lt-ltb 0 (length (d ∷ nonce)) (omega arith)) refl
 
-pub client_starts : (t : Terms) (p : ClientPart) (o : Opening) → settings_in p ≡ settings_of t → o.part ≡ part.Client p → o.stage ≡ stage.Client client_stage.First → o.waiting ≡ opening t → o.count ≡ 0 → o.rest ≡ [] → o.written ≡ [] → StandsIn (client t) [] o
+pub client_starts : (t : Terms) (p : ClientPart) (o : Opening) → settings_in p ≡ settings_of t → o.part ≡ part.Client p
+    → o.stage ≡ stage.Client client_stage.First → o.waiting ≡ opening t → o.count ≡ 0 → o.rest ≡ [] → o.written ≡ []
+    → StandsIn (client t) [] o
 unfolding client
 client_starts t p o s e f g h k l =
     let side : Side Place = record { opening = opening t; start = at_client first; step = step_at (part.Client p) } in
     record {
       side = side;
-      talks_so = talk_placed Phase Place at_client (step (settings_of t)) (step_at (part.Client p)) (λ phase line. ap (λ (settings : Settings). placed at_client (step settings phase line)) s) (opening t) first;
+      talks_so =
+          talk_placed Phase Place at_client (step (settings_of t)) (step_at (part.Client p))
+          (λ phase line. ap (λ (settings : Settings). placed at_client (step settings phase line)) s) (opening t)
+          first;
       steps_so = ap step_at (sym e);
-      stands = same_standing side [] _ _ _ _ _ _ _ _ (ap (λ (ps : List (List ℕ)). goes ps (at_client first)) (first_by t.nonce 0 (auth_line t.mechanism t.user ++ end) ∙ sym g) ∙ ap (λ (s : Stage). turn_of s o.waiting) (sym f)) (sym h) (sym k) (sym l) (stands_first side);
+      stands =
+          same_standing side [] _ _ _ _ _ _ _ _
+          (ap (λ (ps : List (List ℕ)). goes ps (at_client first))
+          (first_by t.nonce 0 (auth_line t.mechanism t.user ++ end) ∙ sym g)
+          ∙ ap (λ (s : Stage). turn_of s o.waiting) (sym f))
+          (sym h) (sym k) (sym l) (stands_first side);
     }
 
-pub server_starts : (t : ServerTerms) (p : ServerPart) (o : Opening) → terms_in p ≡ t → o.part ≡ part.Server p → o.stage ≡ stage.Server server_stage.Start → o.waiting ≡ [] → o.count ≡ 0 → o.rest ≡ [] → o.written ≡ [] → StandsIn (server t) [] o
+pub server_starts : (t : ServerTerms) (p : ServerPart) (o : Opening) → terms_in p ≡ t → o.part ≡ part.Server p
+    → o.stage ≡ stage.Server server_stage.Start → o.waiting ≡ [] → o.count ≡ 0 → o.rest ≡ [] → o.written ≡ []
+    → StandsIn (server t) [] o
 unfolding server
 server_starts t p o s e f g h k l =
     let side : Side Place = record { opening = []; start = at_server start; step = step_at (part.Server p) } in
     record {
       side = side;
-      talks_so = talk_placed ServerPhase Place at_server (server_step t) (step_at (part.Server p)) (λ phase line. ap (λ (terms : ServerTerms). placed at_server (server_step terms phase line)) s) [] start;
+      talks_so =
+          talk_placed ServerPhase Place at_server (server_step t) (step_at (part.Server p))
+          (λ phase line. ap (λ (terms : ServerTerms). placed at_server (server_step terms phase line)) s) [] start;
       steps_so = ap step_at (sym e);
-      stands = same_standing side [] _ _ _ _ _ _ _ _ (ap (λ (ps : List (List ℕ)). goes ps (at_server start)) (sym g) ∙ ap (λ (s : Stage). turn_of s o.waiting) (sym f)) (sym h) (sym k) (sym l) (stands_first side);
+      stands =
+          same_standing side [] _ _ _ _ _ _ _ _
+          (ap (λ (ps : List (List ℕ)). goes ps (at_server start)) (sym g)
+          ∙ ap (λ (s : Stage). turn_of s o.waiting) (sym f))
+          (sym h) (sym k) (sym l) (stands_first side);
     }

@@ -7,7 +7,10 @@ use Rattle.bus_opening.specs.Standing.{rests}
 use Rattle.bus_opening.specs.Outboxes.{Sending, first_piece}
 
 abbrev pub after_sent : Sending → Result Sent Fault → Sending
-after_sent s (Ok (sent.Took n)) = record { waiting = rests n s.waiting; written = s.written ++ take n (first_piece s.waiting) }
+after_sent s (Ok (sent.Took n)) = record {
+  waiting = rests n s.waiting;
+  written = s.written ++ take n (first_piece s.waiting);
+}
 after_sent s (Ok sent.NotReady) = s
 after_sent s (Err e) = s
 

@@ -17,18 +17,31 @@ client_pieces hello reply.Begin = (codes "BEGIN" ++ end ++ hello) ∷ []
 client_pieces hello reply.Both = (negotiate ++ (codes "BEGIN" ++ end ++ hello)) ∷ []
 
 abbrev pub IsAfterOk : Option (List ℕ) → Bool → Bool → List ℕ → Stage → ClientReply → Type 0
-IsAfterOk expected flatpak passes guid new said = (hello : List ℕ) → turn_of new (client_pieces hello said) ≡ placed at_client (after_ok (record { hello = hello; flatpak = flatpak; expected = expected; passes = passes }) guid)
+IsAfterOk expected flatpak passes guid new said =
+    (hello : List ℕ)
+    → turn_of new (client_pieces hello said)
+    ≡ placed at_client
+    (after_ok (record { hello = hello; flatpak = flatpak; expected = expected; passes = passes }) guid)
 
 -- what the step table gives
 abbrev pub AnswerIs : Option (List ℕ) → Bool → Bool → ClientStage → Option Command → Stage → ClientReply → Type 0
-AnswerIs expected flatpak passes old command new said = (hello : List ℕ) → turn_of new (client_pieces hello said) ≡ placed at_client (step_or_refuse (record { hello = hello; flatpak = flatpak; expected = expected; passes = passes }) (client_phase old) command)
+AnswerIs expected flatpak passes old command new said =
+    (hello : List ℕ)
+    → turn_of new (client_pieces hello said)
+    ≡ placed at_client
+    (step_or_refuse (record { hello = hello; flatpak = flatpak; expected = expected; passes = passes })
+    (client_phase old) command)
 
 abbrev pub ok_guid : Option Command → Option (List ℕ)
 ok_guid (Some (cmd.Ok guid)) = Some guid
 ok_guid _ = None
 
 abbrev pub IsAtAsking : List ℕ → Option Command → Stage → ClientReply → Type 0
-IsAtAsking guid command new said = (expected : Option (List ℕ)) (flatpak passes : Bool) → AnswerIs expected flatpak passes (stage.Asking guid) command new said
+IsAtAsking guid command new said =
+    (expected : Option (List ℕ)) (flatpak passes : Bool)
+    → AnswerIs expected flatpak passes (stage.Asking guid) command new said
 
 abbrev pub IsAtBegun : List ℕ → Option Command → Stage → ClientReply → Type 0
-IsAtBegun guid command new said = (expected : Option (List ℕ)) (flatpak passes : Bool) → AnswerIs expected flatpak passes (stage.Begun guid) command new said
+IsAtBegun guid command new said =
+    (expected : Option (List ℕ)) (flatpak passes : Bool)
+    → AnswerIs expected flatpak passes (stage.Begun guid) command new said

@@ -10,7 +10,8 @@ use Rattle.bus_opening.specs.Mechanisms.{mechanism, name_of}
 use Rattle.bus_opening.specs.Words.{words, trimmed, first_word}
 use Rattle.bus_opening.specs.declared.mechanism.AuthMechanism.{AuthMechanism}
 use Rattle.bus_opening.specs.declared.command.Command.{Command}
-use Rattle.bus_opening.specs.declared.command.Command.TheVariants.{Auth, Cancel, Begin, Data, Error, NegotiateUnixFD, AgreeUnixFD, Rejected}
+use Rattle.bus_opening.specs.declared.command.Command.TheVariants.{Auth, Cancel, Begin, Data, Error}
+use Rattle.bus_opening.specs.declared.command.Command.TheVariants.{NegotiateUnixFD, AgreeUnixFD, Rejected}
 use Rattle.bus_opening.specs.declared.command.Command.TheVariants as the
 use Rattle.bus_opening.specs.declared.command.Keyword.{Keyword}
 use Rattle.bus_opening.specs.declared.command.Keyword.TheVariants as key
@@ -36,7 +37,8 @@ hex_bytes word = result_ok (decode_of word)
 abbrev pub auth : List (List ℕ) → Option Command
 auth [] = Some (Auth None None)
 auth (name ∷ []) = option_map (λ m. Auth (Some m) None) (mechanism name)
-auth (name ∷ word ∷ more) = option_and_then (λ m. option_map (λ bytes. Auth (Some m) (Some bytes)) (hex_bytes word)) (mechanism name)
+auth (name ∷ word ∷ more) =
+    option_and_then (λ m. option_map (λ bytes. Auth (Some m) (Some bytes)) (hex_bytes word)) (mechanism name)
 
 abbrev pub data_of : List (List ℕ) → Option Command
 data_of [] = Some (Data None)
@@ -60,7 +62,8 @@ command_of key.Ok rest = ok_of (words rest)
 
 -- the command that a text spells
 abbrev pub command : List ℕ → Option Command
-command text = option_and_then (λ front. option_and_then (λ word. command_of word front.1) (keyword front.0)) (first_word text)
+command text =
+    option_and_then (λ front. option_and_then (λ word. command_of word front.1) (keyword front.0)) (first_word text)
 
 -- ---- printing
 

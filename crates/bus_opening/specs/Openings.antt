@@ -57,7 +57,8 @@ pub record RunsOpening (Origin : Type 0) (wire : ℕ) (old new : Opening) (befor
   pub keeps : Keeps (part.Wire wire) before after
 
 -- some events, and an answer
-pub record PollsOpening (Origin : Type 0) (wire : ℕ) (old new : Opening) (before after : Outer Origin) (answer : Step) : Type 0 where
+pub record PollsOpening (Origin : Type 0) (wire : ℕ) (old new : Opening) (before after : Outer Origin)
+    (answer : Step) : Type 0 where
   pub polls : Polls Opening StandsIn written_of wire old new before.events after.events answer
   pub leaves : Leaves Opening StandsIn written_of rest_of new answer
   pub cause : IoCounted answer (before.wire_faults wire) (after.wire_faults wire)

@@ -9,7 +9,8 @@ pub record Sending : Type 0 where
 
 -- what is left to be sent of what was said, where the first piece ends at `end`
 abbrev pub waiting_of : List ℕ → ℕ → ℕ → List (List ℕ)
-waiting_of said taken end = if nat_lt taken end then take (end - taken) (drop taken said) ∷ piece (drop end said) else piece (drop taken said)
+waiting_of said taken end =
+    if nat_lt taken end then take (end - taken) (drop taken said) ∷ piece (drop end said) else piece (drop taken said)
 
 abbrev pub first_piece : List (List ℕ) → List ℕ
 first_piece [] = []

@@ -61,7 +61,8 @@ place_of stage.Refused = None
 
 -- the stage after a line, and what is said to it
 abbrev pub LineAnswered : Part → Stage → List ℕ → Stage → List ℕ → Type 0
-LineAnswered p old line new bytes = MatchOption (place_of old) (Unit {0}) (λ place. turn_of new (piece bytes) ≡ step_at p place line)
+LineAnswered p old line new bytes =
+    MatchOption (place_of old) (Unit {0}) (λ place. turn_of new (piece bytes) ≡ step_at p place line)
 
 abbrev pub ClientAnswered : ClientPart → Stage → List ℕ → Stage → List ℕ → Type 0
 ClientAnswered p old line new bytes = LineAnswered (part.Client p) old line new bytes

@@ -1,5 +1,6 @@
 -- The server's side of the conversation (D-Bus specification, Authentication Protocol).
-use Rattle.std.specs.Prelude.{ℕ, ◌+◌, ◌*◌, ◌-◌, ◌^◌, Bool, true, false, ◌&&◌, ◌==◌, nat_lt, if◌then◌else◌, List, [], ◌∷◌, ◌++◌, codes, length, Option, Some, None}
+use Rattle.std.specs.Prelude.{ℕ, ◌+◌, ◌*◌, ◌-◌, ◌^◌, Bool, true, false, ◌&&◌, ◌==◌, nat_lt}
+use Rattle.std.specs.Prelude.{if◌then◌else◌, List, [], ◌∷◌, ◌++◌, codes, length, Option, Some, None}
 use Rattle.std.specs.Option.{option_and_then}
 use Rattle.std.specs.Str.{all_ascii_digits}
 use Rattle.bus_opening.specs.declared.config.ServerConfig.{ServerConfig}
@@ -45,7 +46,9 @@ number n (c ∷ digits) = number (10 * n + (c - 48)) digits
 
 -- one or more digits, below 2 ^ 32
 abbrev pub user_in : List ℕ → Option ℕ
-user_in digits = if nat_lt 0 (length digits) && all_ascii_digits digits && nat_lt (number 0 digits) (2 ^ 32) then Some (number 0 digits) else None
+user_in digits =
+    if nat_lt 0 (length digits) && all_ascii_digits digits && nat_lt (number 0 digits) (2 ^ 32)
+    then Some (number 0 digits) else None
 
 -- the user number that bytes spell
 abbrev pub user_of : List ℕ → Option ℕ
@@ -57,7 +60,8 @@ is_permitted (Some permitted) user = permitted == user
 
 abbrev pub by_user : ServerTerms → Bool → Option ℕ → Turn ServerPhase
 by_user t flag None = ends [] refused
-by_user t flag (Some user) = if is_permitted t.permitted user then goes (accepted t) (begin flag) else goes (rejected t) (auth flag)
+by_user t flag (Some user) =
+    if is_permitted t.permitted user then goes (accepted t) (begin flag) else goes (rejected t) (auth flag)
 
 abbrev pub is_mechanism : AuthMechanism → AuthMechanism → Bool
 is_mechanism External External = true
@@ -69,8 +73,11 @@ with_data t flag Anonymous bytes = goes (accepted t) (begin flag)
 with_data t flag External bytes = by_user t flag (user_of bytes)
 
 abbrev pub in_auth : ServerTerms → Bool → Command → Turn ServerPhase
-in_auth t flag (cmd.Auth (Some m) None) = if is_mechanism m t.mechanism then goes ((codes "DATA" ++ end) ∷ []) (data_wanted flag) else goes (rejected t) (auth flag)
-in_auth t flag (cmd.Auth (Some m) (Some bytes)) = if is_mechanism m t.mechanism then with_data t flag m bytes else goes (rejected t) (auth flag)
+in_auth t flag (cmd.Auth (Some m) None) =
+    if is_mechanism m t.mechanism then goes ((codes "DATA" ++ end) ∷ []) (data_wanted flag)
+    else goes (rejected t) (auth flag)
+in_auth t flag (cmd.Auth (Some m) (Some bytes)) =
+    if is_mechanism m t.mechanism then with_data t flag m bytes else goes (rejected t) (auth flag)
 in_auth t flag (cmd.Auth None bytes) = goes (rejected t) (auth flag)
 in_auth t flag cmd.Cancel = goes (rejected t) (auth flag)
 in_auth t flag (cmd.Error text) = goes (rejected t) (auth flag)
@@ -125,4 +132,9 @@ unfoldable pub server : ServerTerms → List (List ℕ) → Said
 server t = talk (server_side t)
 
 abbrev pub server_terms_of : ServerConfig → Bool → ServerTerms
-server_terms_of config passes = record { guid = config.guid; mechanism = config.mechanism; permitted = config.permitted; passes = passes }
+server_terms_of config passes = record {
+  guid = config.guid;
+  mechanism = config.mechanism;
+  permitted = config.permitted;
+  passes = passes;
+}

@@ -1,5 +1,6 @@
 -- A conversation: what is to be sent after each line, and what is asked next.
-use Rattle.std.specs.Prelude.{ℕ, ◌+◌, ◌-◌, zero, suc, Bool, nat_lt, if◌then◌else◌, List, [], ◌∷◌, ◌++◌, length, take, drop, sum_by, Option, Some, None, is_some}
+use Rattle.std.specs.Prelude.{ℕ, ◌+◌, ◌-◌, zero, suc, Bool, nat_lt, if◌then◌else◌, List, [], ◌∷◌}
+use Rattle.std.specs.Prelude.{◌++◌, length, take, drop, sum_by, Option, Some, None, is_some}
 use Rattle.bus_opening.specs.Limits.{command_limit}
 use Rattle.bus_opening.specs.Lines.{lines, long, has_feed, following}
 
@@ -79,7 +80,8 @@ ask_by refused k after = Some handshake
 abbrev pub ask_now : (List (List ℕ) → Said) → List ℕ → ℕ → ℕ → ℕ → Option Ask
 ask_now talk b w k j =
     let said = talk (take j (lines b).whole) in
-    if nat_lt w (sum_by length said.pieces) then Some (send (piece_rest w said.pieces)) else ask_by said.status k (following j b)
+    if nat_lt w (sum_by length said.pieces) then Some (send (piece_rest w said.pieces))
+    else ask_by said.status k (following j b)
 
 abbrev pub first_of : {A : Type 0} → Option A → (Unit {0} → A) → A
 first_of (Some x) other = x

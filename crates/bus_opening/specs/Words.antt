@@ -14,7 +14,8 @@ trimmed_start text = drop (prefix_len is_ascii_whitespace text) text
 -- the word that a text begins with, and what follows it
 abbrev pub word_at_front : List ℕ → Option (List ℕ × List ℕ)
 word_at_front [] = None
-word_at_front (c ∷ text) = Some (before_first is_ascii_whitespace (c ∷ text), drop (position_or_len is_ascii_whitespace (c ∷ text)) (c ∷ text))
+word_at_front (c ∷ text) =
+    Some (before_first is_ascii_whitespace (c ∷ text), drop (position_or_len is_ascii_whitespace (c ∷ text)) (c ∷ text))
 
 -- the first word, and what follows it
 abbrev pub first_word : List ℕ → Option (List ℕ × List ℕ)

@@ -24,10 +24,10 @@ pub struct ServerConfig {
     pub guid: Guid,
     /// The one mechanism that it accepts.
     pub mechanism: AuthMechanism,
-    /// The only user whom EXTERNAL lets in by its number, in the bytes of `AUTH EXTERNAL` or of `DATA`; without one no number
-    /// lets anybody in. It does not bound who gets in: `DATA` without bytes names no user, and is let in whoever is permitted,
-    /// also where nobody is. There the client asks for the identity that the transport has for it (D-Bus specification,
-    /// Authentication Protocol, on EXTERNAL; RFC 4422, appendix A), and an opening does not see the transport. So whoever
-    /// hands in a wire checks the credentials of its peer.
+    /// The only user whom EXTERNAL lets in by its number, in the bytes of `AUTH EXTERNAL` or of `DATA`; without one no
+    /// number lets anybody in. It does not bound who gets in: `DATA` without bytes names no user, and is let in
+    /// whoever is permitted, also where nobody is. There the client asks for the identity that the transport has for
+    /// it (D-Bus specification, Authentication Protocol, on EXTERNAL; RFC 4422, appendix A), and an opening does not
+    /// see the transport. So whoever hands in a wire checks the credentials of its peer.
     pub permitted: Option<u32>,
 }

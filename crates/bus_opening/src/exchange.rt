@@ -1,6 +1,7 @@
 //! A conversation over a wire, whichever side it is: what is sent, what came, and how far it has come.
 
-ghost use Rattle.std.specs.Prelude.{◌≡◌, ◌<◌, ◌≤◌, ◌++◌, ◌↔◌, List, [], ◌∷◌, ℕ, length, Some, MatchOption, IfOk, OnOk, OnErr, IsTrue};
+ghost use Rattle.std.specs.Prelude.{◌≡◌, ◌<◌, ◌≤◌, ◌++◌, ◌↔◌, List, [], ◌∷◌, ℕ, length};
+ghost use Rattle.std.specs.Prelude.{Some, MatchOption, IfOk, OnOk, OnErr, IsTrue};
 ghost use Rattle.std.specs.List.{flat_map};
 ghost use Rattle.react_core.specs.Told.{told, recv_told, send_told, Counted, IsReceived, IsSent};
 ghost use Rattle.bus_opening.specs.AfterSent.{after_sent, SendsLess};
@@ -95,7 +96,8 @@ enum Next {
 fn send_rest<W: Wire>(outbox: &mut Outbox, outside: &mut W, wire: u32) -> Result<Sent, Fault>
     requires { 0 < length outbox.old.waiting }
     ensures after { outbox.new ≡ after_sent outbox.old result }
-    ensures told { (W.outer outside.new).events ≡ told (W.outer outside.old).events (send_told wire (first_piece outbox.old.waiting) result) }
+    ensures told { (W.outer outside.new).events
+        ≡ told (W.outer outside.old).events (send_told wire (first_piece outbox.old.waiting) result) }
     ensures amount { IfOk result (IsSent (length (first_piece outbox.old.waiting))) }
     ensures some { 0 < length (first_piece outbox.old.waiting) }
     ensures cause { Counted result ((W.outer outside.old).wire_faults wire) ((W.outer outside.new).wire_faults wire) }
@@ -110,7 +112,8 @@ fn send_rest<W: Wire>(outbox: &mut Outbox, outside: &mut W, wire: u32) -> Result
 
 impl Exchange {
     ghost use Rattle.std.specs.Prelude.{false};
-    ghost use Rattle.bus_opening.specs.Openings.{Opening, MovesOpening, RunsOpening, PollsOpening, StandsIn, standing, written_of, rest_of, left_over, Looks};
+    ghost use Rattle.bus_opening.specs.Openings.{Opening, MovesOpening, RunsOpening, PollsOpening};
+    ghost use Rattle.bus_opening.specs.Openings.{StandsIn, standing, written_of, rest_of, left_over, Looks};
     ghost use Rattle.bus_opening.specs.Standing.{asks};
     ghost use Rattle.bus_opening.specs.Nexts.{NextIs, MayLook};
     ghost use Rattle.bus_opening.specs.Polling.{bytes_got, Polls, Leaves, IoCounted, is_end};
@@ -119,7 +122,16 @@ impl Exchange {
 
     /// A conversation at its start, with what is to be sent first.
     pub(crate) fn new(alloc: Global, part: Part, stage: Stage, outbox: Outbox) -> Exchange
-        ensures { result ≡ record { part = part; stage = stage; waiting = outbox.waiting; count = 0; rest = []; written = outbox.written; ended = false } }
+        ensures { result
+            ≡ record {
+              part = part;
+              stage = stage;
+              waiting = outbox.waiting;
+              count = 0;
+              rest = [];
+              written = outbox.written;
+              ended = false;
+            } }
     {
         Exchange {
             part,
@@ -139,12 +151,14 @@ impl Exchange {
 
     fn send_rest<W: Wire>(&mut self, outside: &mut W, wire: u32) -> Result<Sent, Fault>
         requires { 0 < length self.old.waiting }
-        ensures moves { MovesOpening wire self.old self.new (W.outer outside.old).events (W.outer outside.new).events (send_told wire (first_piece self.old.waiting) result) }
+        ensures moves { MovesOpening wire self.old self.new (W.outer outside.old).events (W.outer outside.new).events
+            (send_told wire (first_piece self.old.waiting) result) }
         ensures amount { IfOk result (IsSent (length (first_piece self.old.waiting))) }
         ensures some { 0 < length (first_piece self.old.waiting) }
         ensures less { SendsLess self.old.waiting self.new.waiting result }
         ensures same { self.new ≡ record self.old { waiting = self.new.waiting; written = self.new.written } }
-        ensures cause { Counted result ((W.outer outside.old).wire_faults wire) ((W.outer outside.new).wire_faults wire) }
+        ensures cause { Counted result ((W.outer outside.old).wire_faults wire)
+            ((W.outer outside.new).wire_faults wire) }
         ensures keeps { Keeps (part.Wire wire) (W.outer outside.old) (W.outer outside.new) }
     {
         send_rest(&mut self.outbox, outside, wire)
@@ -152,7 +166,9 @@ impl Exchange {
 
     // Sends until nothing waits, or the wire stops.
     fn flush<W: Wire>(&mut self, outside: &mut W, wire: u32) -> Option<Step>
-        ensures run { MatchOption result (RunsOpening W.Origin wire self.old self.new (W.outer outside.old) (W.outer outside.new) × (length self.new.waiting ≡ 0))
+        ensures run { MatchOption result
+            (RunsOpening W.Origin wire self.old self.new (W.outer outside.old) (W.outer outside.new)
+            × (length self.new.waiting ≡ 0))
             (λ s. PollsOpening W.Origin wire self.old self.new (W.outer outside.old) (W.outer outside.new) s) }
         ensures same { self.new ≡ record self.old { waiting = self.new.waiting; written = self.new.written } }
     {
@@ -170,9 +186,11 @@ impl Exchange {
     fn recv<W: Wire>(&mut self, outside: &mut W, wire: u32) -> Result<Received, Fault>
         requires few { length self.old.rest ≤ line_limit }
         ensures amount { IfOk result (IsReceived read_size) }
-        ensures told { (into : List ℕ) × (length into ≡ read_size) × ((W.outer outside.new).events ≡ told (W.outer outside.old).events (recv_told wire into result))
+        ensures told { (into : List ℕ) × (length into ≡ read_size)
+            × ((W.outer outside.new).events ≡ told (W.outer outside.old).events (recv_told wire into result))
             × (self.new ≡ record self.old { rest = self.old.rest ++ flat_map bytes_got (recv_told wire into result) }) }
-        ensures cause { Counted result ((W.outer outside.old).wire_faults wire) ((W.outer outside.new).wire_faults wire) }
+        ensures cause { Counted result ((W.outer outside.old).wire_faults wire)
+            ((W.outer outside.new).wire_faults wire) }
         ensures keeps { Keeps (part.Wire wire) (W.outer outside.old) (W.outer outside.new) }
     {
         self.inbox.recv(outside, wire)
@@ -182,7 +200,9 @@ impl Exchange {
     fn read<W: Wire>(&mut self, outside: &mut W, wire: u32) -> Option<Step>
         requires few { length self.old.rest ≤ line_limit }
         requires asked { asks (standing self.old) ≡ Some recv }
-        ensures run { MatchOption result (RunsOpening W.Origin wire self.old self.new (W.outer outside.old) (W.outer outside.new) × (left_over self.new < left_over self.old))
+        ensures run { MatchOption result
+            (RunsOpening W.Origin wire self.old self.new (W.outer outside.old) (W.outer outside.new)
+            × (left_over self.new < left_over self.old))
             (λ s. PollsOpening W.Origin wire self.old self.new (W.outer outside.old) (W.outer outside.new) s) }
     {
         match self.recv(outside, wire) {
@@ -234,7 +254,9 @@ impl Exchange {
     // One more step where nothing waits.
     fn proceed<W: Wire>(&mut self, alloc: Global, outside: &mut W, wire: u32) -> Option<Step>
         requires { length self.old.waiting ≡ 0 }
-        ensures run { MatchOption result (RunsOpening W.Origin wire self.old self.new (W.outer outside.old) (W.outer outside.new) × (left_over self.new < left_over self.old))
+        ensures run { MatchOption result
+            (RunsOpening W.Origin wire self.old self.new (W.outer outside.old) (W.outer outside.new)
+            × (left_over self.new < left_over self.old))
             (λ s. PollsOpening W.Origin wire self.old self.new (W.outer outside.old) (W.outer outside.new) s) }
     {
         match self.next() {
@@ -264,10 +286,12 @@ impl Exchange {
     /// Asks the wire until it isn't ready or the opening ends.
     pub(crate) fn poll<W: Wire>(&mut self, alloc: Global, outside: &mut W, wire: u32) -> Step
         requires open { self.old.ended ≡ false }
-        ensures polls { Polls Opening StandsIn written_of wire self.old self.new (W.outer outside.old).events (W.outer outside.new).events result }
+        ensures polls { Polls Opening StandsIn written_of wire self.old self.new (W.outer outside.old).events
+            (W.outer outside.new).events result }
         ensures leaves { Leaves Opening StandsIn written_of rest_of self.new result }
         ensures ended { self.new.ended ≡ is_end result }
-        ensures cause { IoCounted result ((W.outer outside.old).wire_faults wire) ((W.outer outside.new).wire_faults wire) }
+        ensures cause { IoCounted result ((W.outer outside.old).wire_faults wire)
+            ((W.outer outside.new).wire_faults wire) }
         ensures keeps { Keeps (part.Wire wire) (W.outer outside.old) (W.outer outside.new) }
     {
         let step = self.converse(alloc, outside, wire);

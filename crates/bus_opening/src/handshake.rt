@@ -11,7 +11,8 @@ use crate::verdict::Step;
 use react_core::outside::Wire;
 use std::alloc::Global;
 
-/// One side of an opening in progress (D-Bus specification, Authentication Protocol). It asks its wire and nothing else.
+/// One side of an opening in progress (D-Bus specification, Authentication Protocol). It asks its wire and nothing
+/// else.
 pub trait Handshake {
     /// Over these bytes that came the opening stands in this conversation.
     ghost stands: { (List (List ℕ) → Said) → List ℕ → Self → Type 0 };
@@ -25,14 +26,16 @@ pub trait Handshake {
     /// Whether a poll has answered the end.
     ghost ended: { Self → Bool };
 
-    /// Asks the wire until it isn't ready or the opening ends. After `OutOfMemory` the opening stands where the last call
-    /// of the wire left it, and may be polled again.
+    /// Asks the wire until it isn't ready or the opening ends. After `OutOfMemory` the opening stands where the last
+    /// call of the wire left it, and may be polled again.
     fn poll<W: Wire>(&mut self, alloc: Global, outside: &mut W, wire: u32) -> Step
         requires open { ended self.old ≡ false }
-        ensures polls { Polls Self stands written wire self.old self.new (W.outer outside.old).events (W.outer outside.new).events result }
+        ensures polls { Polls Self stands written wire self.old self.new (W.outer outside.old).events
+            (W.outer outside.new).events result }
         ensures leaves { Leaves Self stands written unlooked self.new result }
         ensures ended { ended self.new ≡ is_end result }
-        ensures cause { IoCounted result ((W.outer outside.old).wire_faults wire) ((W.outer outside.new).wire_faults wire) }
+        ensures cause { IoCounted result ((W.outer outside.old).wire_faults wire)
+            ((W.outer outside.new).wire_faults wire) }
         ensures keeps { Keeps (part.Wire wire) (W.outer outside.old) (W.outer outside.new) };
 
     /// What the wire took, a nonce included.

@@ -1,6 +1,7 @@
 //! Bytes that came and were not looked at.
 
-ghost use Rattle.std.specs.Prelude.{◌≡◌, ◌==◌, ◌≤◌, ◌+◌, ◌-◌, ◌++◌, List, [], ℕ, length, take, drop, position, IfOk, OnOk};
+ghost use Rattle.std.specs.Prelude.{◌≡◌, ◌==◌, ◌≤◌, ◌+◌, ◌-◌, ◌++◌, List, [], ℕ};
+ghost use Rattle.std.specs.Prelude.{length, take, drop, position, IfOk, OnOk};
 ghost use Rattle.std.specs.List.{flat_map};
 ghost use Rattle.std.specs.Vec.{vec_capacity};
 ghost use Rattle.bus_opening.specs.Limits.{line_limit, read_size, buffer_limit};
@@ -97,7 +98,8 @@ fn make_room(bytes: &mut Vec<u8>) -> Result<(), AllocError>
     bytes.reserve_exact(room_for_read(len, bytes.capacity()) - len)
 }
 
-// Puts bytes behind those that are there, in the room that they have. `extend_from_slice` doesn't say what room it leaves.
+// Puts bytes behind those that are there, in the room that they have. `extend_from_slice` doesn't say what room it
+// leaves.
 fn append(bytes: &mut Vec<u8>, came: &[u8])
     requires room { length bytes.old.items + length came.now ≤ vec_capacity bytes.old }
     ensures items { bytes.new.items ≡ bytes.old.items ++ came.now }
@@ -108,13 +110,14 @@ fn append(bytes: &mut Vec<u8>, came: &[u8])
     }
 }
 
-// Reads behind the bytes that are there. Memory is there before the wire is asked, so that no byte that came is lost; where
-// none came and none were there it is given back.
+// Reads behind the bytes that are there. Memory is there before the wire is asked, so that no byte that came is lost;
+// where none came and none were there it is given back.
 fn receive<W: Wire>(bytes: &mut Vec<u8>, outside: &mut W, wire: u32) -> Result<Received, Fault>
     requires few { length bytes.old.items ≤ line_limit }
     requires within { vec_capacity bytes.old ≤ buffer_limit }
     ensures amount { IfOk result (IsReceived read_size) }
-    ensures told { (into : List ℕ) × (length into ≡ read_size) × ((W.outer outside.new).events ≡ told (W.outer outside.old).events (recv_told wire into result))
+    ensures told { (into : List ℕ) × (length into ≡ read_size)
+        × ((W.outer outside.new).events ≡ told (W.outer outside.old).events (recv_told wire into result))
         × (bytes.new.items ≡ bytes.old.items ++ flat_map bytes_got (recv_told wire into result)) }
     ensures cause { Counted result ((W.outer outside.old).wire_faults wire) ((W.outer outside.new).wire_faults wire) }
     ensures keeps { Keeps (part.Wire wire) (W.outer outside.old) (W.outer outside.new) }
@@ -176,9 +179,11 @@ impl Inbox {
     pub(crate) fn recv<W: Wire>(&mut self, outside: &mut W, wire: u32) -> Result<Received, Fault>
         requires { length self.old ≤ line_limit }
         ensures amount { IfOk result (IsReceived read_size) }
-        ensures told { (into : List ℕ) × (length into ≡ read_size) × ((W.outer outside.new).events ≡ told (W.outer outside.old).events (recv_told wire into result))
+        ensures told { (into : List ℕ) × (length into ≡ read_size)
+            × ((W.outer outside.new).events ≡ told (W.outer outside.old).events (recv_told wire into result))
             × (self.new ≡ self.old ++ flat_map bytes_got (recv_told wire into result)) }
-        ensures cause { Counted result ((W.outer outside.old).wire_faults wire) ((W.outer outside.new).wire_faults wire) }
+        ensures cause { Counted result ((W.outer outside.old).wire_faults wire)
+            ((W.outer outside.new).wire_faults wire) }
         ensures keeps { Keeps (part.Wire wire) (W.outer outside.old) (W.outer outside.new) }
     {
         remove_front(&mut self.bytes, self.start);

@@ -1,6 +1,7 @@
 //! Pieces that are to be sent.
 
-ghost use Rattle.std.specs.Prelude.{◌≡◌, ◌≢◌, ◌≤◌, ◌<◌, ◌++◌, ◌↔◌, List, [], ℕ, length, take, OnOk, OnErr, IfOk, IsTrue, get_or};
+ghost use Rattle.std.specs.Prelude.{◌≡◌, ◌≢◌, ◌≤◌, ◌<◌, ◌++◌, ◌↔◌, List, [], ℕ};
+ghost use Rattle.std.specs.Prelude.{length, take, OnOk, OnErr, IfOk, IsTrue, get_or};
 ghost use Rattle.bus_opening.specs.Client.{piece};
 ghost use Rattle.bus_opening.specs.Standing.{rests};
 ghost use Rattle.bus_opening.specs.Outboxes.{first_piece};

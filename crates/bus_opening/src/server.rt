@@ -32,8 +32,8 @@ impl Server {
     ghost use Rattle.bus_opening.specs.Openings.{StandsIn};
 
     /// A server at the start of its conversation over a wire that was just opened: `passes` where the wire could pass
-    /// descriptors. A client that sends `DATA` without bytes under EXTERNAL is let in without a test of who it is, so the
-    /// peer's credentials are to be checked by whoever opened the wire.
+    /// descriptors. A client that sends `DATA` without bytes under EXTERNAL is let in without a test of who it is, so
+    /// the peer's credentials are to be checked by whoever opened the wire.
     ///
     /// # Errors
     ///

@@ -3,7 +3,8 @@
 ghost use Rattle.std.specs.Prelude.{◌≡◌, IfOk};
 ghost use Rattle.std.specs.Option.{option_map};
 ghost use Rattle.bus_opening.specs.Client.{piece};
-ghost use Rattle.bus_opening.specs.Server.{user_of, is_permitted, is_mechanism, line_of, by_user, with_data, in_auth, in_data, in_begin, step_server};
+ghost use Rattle.bus_opening.specs.Server.{user_of, is_permitted, is_mechanism, line_of, by_user};
+ghost use Rattle.bus_opening.specs.Server.{with_data, in_auth, in_data, in_begin, step_server};
 ghost use Rattle.bus_opening.specs.Parts.{phase_in, terms_in};
 ghost use Rattle.bus_opening.specs.ServerReplies.{server_pieces, ServerTurns};
 

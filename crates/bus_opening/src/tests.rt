@@ -211,8 +211,8 @@ enum Asks {
     Flatpak,
 }
 
-// What a client of user 1000 asks for, the GUID that it expects, what comes, how it ends, what it sends behind its first
-// line, and what it leaves.
+// What a client of user 1000 asks for, the GUID that it expects, what comes, how it ends, what it sends behind its
+// first line, and what it leaves.
 #[derive(Clone, Copy)]
 struct Case(
     Asks,
@@ -611,7 +611,8 @@ fn a_server_answers_each_command_by_its_step(rt: HostRuntime) -> Result<(), Fail
     Ok(())
 }
 
-// How a server ends that gets NUL, so many lines `BEGIN`, and these behind them; how many bytes it said, and how many it left.
+// How a server ends that gets NUL, so many lines `BEGIN`, and these behind them; how many bytes it said, and how many
+// it left.
 fn begins(
     alloc: Global,
     count: usize,
@@ -706,8 +707,8 @@ fn once(alloc: Global, client: &mut Client, wire: &mut Memory) -> Option<Step> {
     Some(client.poll(alloc, wire, 0))
 }
 
-// What a plain client answers where this call of its wire meets this trouble, and whether it opens when it is polled on: its
-// calls are a send, a read, and the send of `BEGIN`.
+// What a plain client answers where this call of its wire meets this trouble, and whether it opens when it is polled
+// on: its calls are a send, a read, and the send of `BEGIN`.
 fn answers(alloc: Global, at: u64, trouble: Trouble) -> Result<(Option<Step>, bool), Fail> {
     let comes = lines(alloc, K)?;
     let mut wire = holding(alloc, comes.as_slice())?;

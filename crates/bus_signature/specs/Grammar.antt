@@ -1,5 +1,6 @@
 -- Single complete types, and what a text spells (D-Bus specification, Type System).
-use Rattle.std.specs.Prelude.{◌≡◌, ◌⊎◌, ℕ, zero, suc, Bool, true, false, ◌&&◌, IsTrue, List, [], ◌∷◌, Result, Ok, Err, ⊤}
+use Rattle.std.specs.Prelude.{◌≡◌, ◌⊎◌, ℕ, zero, suc, Bool, true, false, ◌&&◌}
+use Rattle.std.specs.Prelude.{IsTrue, List, [], ◌∷◌, Result, Ok, Err, ⊤}
 use Rattle.std.specs.List.{list_all}
 use Rattle.bus_signature.specs.declared.signature.Signature.{Signature}
 use Rattle.bus_signature.specs.declared.signature.Signature.TheVariants.{Unit, Structure}
@@ -19,7 +20,8 @@ complete_step (Signature-F.Dict key value) zero structures = false
 complete_step (Signature-F.Dict key value) (suc arrays) structures = key arrays structures && value arrays structures
 complete_step (Signature-F.Structure fields) arrays zero = false
 complete_step (Signature-F.Structure []) arrays (suc structures) = false
-complete_step (Signature-F.Structure (field ∷ fields)) arrays (suc structures) = list_all (λ inside. inside arrays structures) (field ∷ fields)
+complete_step (Signature-F.Structure (field ∷ fields)) arrays (suc structures) =
+    list_all (λ inside. inside arrays structures) (field ∷ fields)
 complete_step _ arrays structures = true
 
 -- a single complete type that opens at most so many arrays and dictionaries, and so many structures, one in another
@@ -28,7 +30,8 @@ complete = fold-Signature (ℕ → ℕ → Bool) complete_step
 
 abbrev pub AreComplete : ℕ → ℕ → List Signature → Type 0
 AreComplete arrays structures [] = ⊤
-AreComplete arrays structures (one ∷ more) = IsTrue (complete one arrays structures) × AreComplete arrays structures more
+AreComplete arrays structures (one ∷ more) =
+    IsTrue (complete one arrays structures) × AreComplete arrays structures more
 
 -- what several types at the top are: none is Unit, one is itself, more are a structure
 abbrev pub whole : List Signature → Signature
@@ -62,6 +65,7 @@ ReadAs it (Ok other) = other ≡ it
 ReadAs it (Err error.InvalidSignature) = ⊥
 ReadAs it (Err error.OutOfMemory) = ⊤
 
--- What is read back from its text: Unit, and a single complete type. So nothing inside is Unit, no structure is empty, and both depths are kept.
+-- What is read back from its text: Unit, and a single complete type. So nothing inside is Unit, no structure is empty,
+-- and both depths are kept.
 abbrev pub IsReadable : Signature → Type 0
 IsReadable signature = (signature ≡ Unit) ⊎ IsTrue (complete signature 32 32)

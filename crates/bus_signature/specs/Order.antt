@@ -34,7 +34,8 @@ kind_step (Signature-F.Structure fields) = 17
 unfoldable pub kind : Signature → ℕ
 kind = fold-Signature ℕ kind_step
 
--- It is said whole: by kind, and at one kind by the child, by the key and then the value, or by the fields lexicographically.
+-- It is said whole: by kind, and at one kind by the child, by the key and then the value, or by the fields
+-- lexicographically.
 pub record IsSignatureOrder (order : Signature → Signature → Ordering) : Type 0 where
   pub kinds : (s t : Signature) → kind s < kind t → order s t ≡ Less
   pub arrays : (s t : Signature) → order (Array s) (Array t) ≡ order s t

@@ -1,8 +1,11 @@
 -- What a reader takes from the front of a text.
-use Rattle.std.specs.Prelude.{◌≡◌, ℕ, ◌==◌, if◌then◌else◌, IsTrue, List, [], ◌∷◌, ◌++◌, Option, Some, None, Result, Ok, Err, ⊤}
+use Rattle.std.specs.Prelude.{◌≡◌, ℕ, ◌==◌, if◌then◌else◌, IsTrue, List, []}
+use Rattle.std.specs.Prelude.{◌∷◌, ◌++◌, Option, Some, None, Result, Ok, Err, ⊤}
 use Rattle.std.specs.Borrow.{Bor}
 use Rattle.bus_signature.specs.declared.signature.Signature.{Signature}
-use Rattle.bus_signature.specs.declared.signature.Signature.TheVariants.{U8, Bool as Boolean, I16, U16, I32, U32, I64, U64, F64, Str, Signature as Sig, ObjectPath, Variant, Fd}
+use Rattle.bus_signature.specs.declared.signature.Signature.TheVariants.{U8, Bool as Boolean, I16, U16, I32, U32}
+use Rattle.bus_signature.specs.declared.signature.Signature.TheVariants.{I64, U64, F64, Str, Signature as Sig}
+use Rattle.bus_signature.specs.declared.signature.Signature.TheVariants.{ObjectPath, Variant, Fd}
 use Rattle.bus_signature.specs.declared.error.Error.{Error}
 use Rattle.bus_signature.specs.declared.error.Error.TheVariants as error
 use Rattle.bus_signature.specs.Texts.{text, texts}
@@ -13,7 +16,9 @@ find_letter c [] = None
 find_letter c (entry ∷ entries) = if c == entry.0 then Some entry.1 else find_letter c entries
 
 abbrev pub letters : List (ℕ × Signature)
-letters = (121, U8) ∷ (98, Boolean) ∷ (110, I16) ∷ (113, U16) ∷ (105, I32) ∷ (117, U32) ∷ (120, I64) ∷ (116, U64) ∷ (100, F64) ∷ (115, Str) ∷ (103, Sig) ∷ (111, ObjectPath) ∷ (118, Variant) ∷ (104, Fd) ∷ []
+letters =
+    (121, U8) ∷ (98, Boolean) ∷ (110, I16) ∷ (113, U16) ∷ (105, I32) ∷ (117, U32) ∷ (120, I64) ∷ (116, U64) ∷ (100, F64)
+    ∷ (115, Str) ∷ (103, Sig) ∷ (111, ObjectPath) ∷ (118, Variant) ∷ (104, Fd) ∷ []
 
 -- the type of one letter
 abbrev pub letter : ℕ → Option Signature
@@ -57,5 +62,6 @@ Skipped arrays structures bytes (Some rest) = (signature : Signature) × Takes a
 Skipped arrays structures bytes None = TakesNone arrays structures bytes
 
 abbrev pub SkippedAll : ℕ → ℕ → List ℕ → Option (Bor (List ℕ)) → Type 0
-SkippedAll arrays structures bytes (Some rest) = (types : List Signature) × TakesAll arrays structures bytes types rest.now
+SkippedAll arrays structures bytes (Some rest) =
+    (types : List Signature) × TakesAll arrays structures bytes types rest.now
 SkippedAll arrays structures bytes None = TakesNoTypes arrays structures bytes

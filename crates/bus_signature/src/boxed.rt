@@ -8,7 +8,8 @@ use std::cmp::Ordering;
 use std::hash::{Hash, Hasher};
 use std::marker::Model;
 
-/// A value on the heap. Contracts see it as the value itself, so that a type may hold itself through it and still be plain data.
+/// A value on the heap. Contracts see it as the value itself, so that a type may hold itself through it and still be
+/// plain data.
 #[derive(Debug, Drop)]
 pub struct Boxed<T> {
     value: Box<T>,

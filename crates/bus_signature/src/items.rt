@@ -1,9 +1,11 @@
 //! An owner of many values, which contracts see as the list of them.
 
-ghost use Rattle.std.specs.Prelude.{◌≡◌, ◌↔◌, ◌++◌, ◌∷◌, [], ◌≤◌, IfOk, IsNone, IsTrue, MatchOption, OnErr, OnOk, length, slice_get};
+ghost use Rattle.std.specs.Prelude.{◌≡◌, ◌↔◌, ◌++◌, ◌∷◌, [], ◌≤◌, IfOk, IsNone, IsTrue};
+ghost use Rattle.std.specs.Prelude.{MatchOption, OnErr, OnOk, length, slice_get};
 ghost use Rattle.std.specs.Option.{option_copied};
 ghost use Rattle.std.specs.Slice.Iter.{iter_rest};
-ghost use Rattle.std.specs.Cmp.Lexicographic.{pointwise, slice_cmp, slice_partial_cmp, lists_per, lists_equiv, lists_po, lists_total, lists_agrees, lists_ties};
+ghost use Rattle.std.specs.Cmp.Lexicographic.{pointwise, slice_cmp, slice_partial_cmp, lists_per};
+ghost use Rattle.std.specs.Cmp.Lexicographic.{lists_equiv, lists_po, lists_total, lists_agrees, lists_ties};
 ghost use Rattle.std.specs.Hash as fed;
 
 use crate::error::OutOfMemory;
@@ -13,7 +15,8 @@ use std::hash::{Hash, Hasher};
 use std::marker::Model;
 use std::slice;
 
-/// Values one after another. Contracts see them as a list, so that a type may hold a list of itself and still be plain data.
+/// Values one after another. Contracts see them as a list, so that a type may hold a list of itself and still be plain
+/// data.
 #[derive(Debug, Drop)]
 pub struct Items<T> {
     values: Vec<T>,

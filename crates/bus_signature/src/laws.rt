@@ -40,8 +40,8 @@ pub fn partial_order(a: &Signature, b: &Signature) -> Option<Ordering>
     a.partial_cmp(b)
 }
 
-/// `Hash`'s own writes: the number of the signature's kind, and then what is inside. So equal signatures take hashers in
-/// one state to one state.
+/// `Hash`'s own writes: the number of the signature's kind, and then what is inside. So equal signatures take hashers
+/// in one state to one state.
 pub fn hash_both<H: Hasher>(a: &Signature, b: &Signature, first: &mut H, second: &mut H)
     ensures own { (s : Signature) → ⟦<Signature as Hash>⟧.hash_input s ≡ feed s }
     ensures first { first.new ≡ fold H.write first.old (feed a.now) }

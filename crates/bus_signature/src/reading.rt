@@ -202,11 +202,13 @@ fn read(alloc: Global, bytes: &[u8]) -> Result<Signature, Error>
 impl Signature {
     /// Reads a signature from the bytes of its text (D-Bus specification, Type System).
     ///
-    /// [`Error::InvalidSignature`] exactly where the bytes are no signature's. The text of what is read has a length that fits.
+    /// [`Error::InvalidSignature`] exactly where the bytes are no signature's. The text of what is read has a length
+    /// that fits.
     pub fn from_bytes(alloc: Global, bytes: &[u8]) -> Result<Signature, Error>
         ensures grammar { Read bytes.now result }
         ensures only { (signature : Signature) → Spells bytes.now signature → ReadAs signature result }
-        ensures back { (signature : Signature) → IsReadable signature → bytes.now ≡ printed signature → ReadAs signature result }
+        ensures back { (signature : Signature) → IsReadable signature → bytes.now ≡ printed signature
+            → ReadAs signature result }
         ensures fits { IfOk result (λ signature. Fits signature) }
     {
         read(alloc, bytes)
@@ -216,7 +218,8 @@ impl Signature {
     pub fn try_from_bytes(alloc: Global, bytes: &[u8]) -> Result<Signature, Error>
         ensures grammar { Read bytes.now result }
         ensures only { (signature : Signature) → Spells bytes.now signature → ReadAs signature result }
-        ensures back { (signature : Signature) → IsReadable signature → bytes.now ≡ printed signature → ReadAs signature result }
+        ensures back { (signature : Signature) → IsReadable signature → bytes.now ≡ printed signature
+            → ReadAs signature result }
         ensures fits { IfOk result (λ signature. Fits signature) }
     {
         Signature::from_bytes(alloc, bytes)
@@ -226,7 +229,8 @@ impl Signature {
     pub fn from_str(alloc: Global, text: &str) -> Result<Signature, Error>
         ensures grammar { Read text.now result }
         ensures only { (signature : Signature) → Spells text.now signature → ReadAs signature result }
-        ensures back { (signature : Signature) → IsReadable signature → text.now ≡ printed signature → ReadAs signature result }
+        ensures back { (signature : Signature) → IsReadable signature → text.now ≡ printed signature
+            → ReadAs signature result }
         ensures fits { IfOk result (λ signature. Fits signature) }
     {
         Signature::from_bytes(alloc, text.as_bytes())
@@ -236,7 +240,8 @@ impl Signature {
     pub fn try_from_text(alloc: Global, text: &str) -> Result<Signature, Error>
         ensures grammar { Read text.now result }
         ensures only { (signature : Signature) → Spells text.now signature → ReadAs signature result }
-        ensures back { (signature : Signature) → IsReadable signature → text.now ≡ printed signature → ReadAs signature result }
+        ensures back { (signature : Signature) → IsReadable signature → text.now ≡ printed signature
+            → ReadAs signature result }
         ensures fits { IfOk result (λ signature. Fits signature) }
     {
         Signature::from_str(alloc, text)

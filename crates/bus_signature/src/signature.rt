@@ -4,7 +4,8 @@ use crate::boxed::Boxed;
 use crate::items::Items;
 use std::slice;
 
-/// A type signature: the types of the values in a message's body, or in a part of it (D-Bus specification, Type System).
+/// A type signature: the types of the values in a message's body, or in a part of it (D-Bus specification, Type
+/// System).
 ///
 /// Signatures are ordered by kind, in the order of the variants here, and then by what is inside.
 #[derive(Debug, Drop, PartialEq, Eq, PartialOrd, Ord, Hash)]

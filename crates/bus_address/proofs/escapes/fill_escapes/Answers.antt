@@ -14,5 +14,9 @@ loop-index-preserved c =
       fits = omega (arith, c.loop-index.invariant.fits, c.if-index-eq-MOST_ESCAPES.false);
       size = rw (length-set, length-set, length-set) c.loop-index.invariant.size;
       text = escape_stored c.args.bytes.now c.loop-index.buffer c.loop-index.index byte _ _ c.loop-index-test.true refl (sym c.is_plain.ensures ∙ c.if-is_plain.false)
-          (ap (λ k. get_or DIGITS k 0) high ∙ digit_entry (byte / 16) (omega arith)) (ap (λ k. get_or DIGITS k 0) low ∙ digit_entry (byte % 16) (omega arith)) (omega (arith, c.loop-index.invariant.fits, c.loop-index.invariant.size, c.if-index-eq-MOST_ESCAPES.false)) c.loop-index.invariant.text;
+          (ap (λ k. get_or DIGITS k 0) high ∙ digit_entry (byte / 16) (omega arith))
+          (ap (λ k. get_or DIGITS k 0) low ∙ digit_entry (byte % 16) (omega arith))
+          (omega
+          (arith, c.loop-index.invariant.fits, c.loop-index.invariant.size, c.if-index-eq-MOST_ESCAPES.false))
+          c.loop-index.invariant.text;
     }

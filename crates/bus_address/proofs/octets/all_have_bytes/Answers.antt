@@ -10,6 +10,13 @@ returns-then-not-has_bytes-clause-value c =
 
 pub loop-bytes-preserved : goal.loop-bytes-preserved
 loop-bytes-preserved c = record {
-  some = all_more has_bytes c.args.all.now c.loop-bytes.bytes-index c.bytes-item.result c.loop-bytes-test.true c.bytes-item.is (ap has_bytes (sym c.as_slice.ensures.value) ∙ sym c.has_bytes.ensures.value ∙ c.if-not-has_bytes.false) c.loop-bytes.invariant.some;
-  values = values_more c.args.all.now c.loop-bytes.bytes-index c.bytes-item.result c.loop-bytes-test.true c.bytes-item.is (subst IsValue c.as_slice.ensures.value (c.has_bytes.ensures.readable c.if-not-has_bytes.false)) c.loop-bytes.invariant.values;
+  some =
+      all_more has_bytes c.args.all.now c.loop-bytes.bytes-index c.bytes-item.result c.loop-bytes-test.true
+      c.bytes-item.is
+      (ap has_bytes (sym c.as_slice.ensures.value) ∙ sym c.has_bytes.ensures.value ∙ c.if-not-has_bytes.false)
+      c.loop-bytes.invariant.some;
+  values =
+      values_more c.args.all.now c.loop-bytes.bytes-index c.bytes-item.result c.loop-bytes-test.true c.bytes-item.is
+      (subst IsValue c.as_slice.ensures.value (c.has_bytes.ensures.readable c.if-not-has_bytes.false))
+      c.loop-bytes.invariant.values;
 }

@@ -11,7 +11,15 @@ pub slice_bounds-feed_len-start : goal.slice_bounds-feed_len-start
 slice_bounds-feed_len-start c = omega (arith, feed_within c.args.bytes.now, c.requires.searched)
 
 pub overflow_add-result : goal.overflow_add-result
-overflow_add-result c = omega (arith, c.feed_len.ensures, ap (λ (y : List ℕ). feed_at y) (take_rest c.args.bytes.now c.args.searched), feed_after c.args.searched c.args.bytes.now c.requires.searched, feed_within c.args.bytes.now, c.requires.few)
+overflow_add-result c =
+    omega (
+      arith,
+      c.feed_len.ensures,
+      ap (λ (y : List ℕ). feed_at y) (take_rest c.args.bytes.now c.args.searched),
+      feed_after c.args.searched c.args.bytes.now c.requires.searched,
+      feed_within c.args.bytes.now,
+      c.requires.few,
+    )
 
 pub returns : goal.returns
 returns c = rw (c.feed_len.ensures, take_rest c.args.bytes.now c.args.searched) (feed_after c.args.searched c.args.bytes.now c.requires.searched)

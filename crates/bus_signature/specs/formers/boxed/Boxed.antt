@@ -1,4 +1,5 @@
--- How `Boxed` holds its value, so that a type may hold itself through it: seen, it is the value; within, the value lies in the block of a `Box`.
+-- How `Boxed` holds its value, so that a type may hold itself through it: seen, it is the value; within, the value lies
+-- in the block of a `Box`.
 use mathlib.Core.Former.{Former, this, const, pair, via}
 use mathlib.Core.Path.{refl}
 use base.Fml.{ftrue}
@@ -37,7 +38,9 @@ abbrev block_at : {X : Type 0} → Ptr × Global → X → Box X Global
 block_at at value = record { ptr = at.0; alloc = at.1; value = value }
 
 abbrev within : Former {0}
-within = via (pair (const (Ptr × Global)) this) Inside (λ X it. (place it.value, it.value.value)) (λ X parts. record { value = block_at parts.0 parts.1 }) (λ X it. refl) (λ X parts. refl)
+within =
+    via (pair (const (Ptr × Global)) this) Inside (λ X it. (place it.value, it.value.value))
+    (λ X parts. record { value = block_at parts.0 parts.1 }) (λ X it. refl) (λ X parts. refl)
 
 abbrev block_of : RattleType → RattleType
 block_of R = block.the_row R global.the_row ghosts
@@ -51,15 +54,24 @@ module _ (A B : RattleType) (h : A.Denot → B.Denot) where
   unfolding part_of
   blocks same = record {
     mir_same = λ i. (block_of (one_value A (same.mir_same i) (λ _. ftrue) (λ _ _. nothing) gnil)).mir;
-    own_same = λ it i. (block_of (one_value A (same.mir_same i) (same.own_same it.value i) (same.shr_same it.value i) gnil)).own_val (block_at (place it) tt);
-    shr_same = λ it i. (block_of (one_value A (same.mir_same i) (same.own_same it.value i) (same.shr_same it.value i) gnil)).shr_at (block_at (place it) tt);
+    own_same = λ it i.
+        (block_of (one_value A (same.mir_same i) (same.own_same it.value i) (same.shr_same it.value i) gnil)).own_val
+        (block_at (place it) tt);
+    shr_same = λ it i.
+        (block_of (one_value A (same.mir_same i) (same.own_same it.value i) (same.shr_same it.value i) gnil)).shr_at
+        (block_at (place it) tt);
   }
 
-  pub the_codes_placed : Recodes A B h → Recodes (owner.the_row A) (owner.the_row B) ((the_former this).map A.Denot B.Denot h)
+  pub the_codes_placed : Recodes A B h
+      → Recodes (owner.the_row A) (owner.the_row B) ((the_former this).map A.Denot B.Denot h)
   the_codes_placed same = same
 
   pub the_places : Alike A B h → Alike (owner.the_row A) (owner.the_row B) ((the_former this).map A.Denot B.Denot h)
   the_places same =
-      let fields = struct_places (inside.the_type A) (inside.the_type B) (refilled, tt) _ (λ it. refl) refl (laid _ _ _ (blocks same), tt) in
-      view_places within this view (λ X Y k it. refl) (λ X it. refl) A.Denot B.Denot h (owner.the_row A).coded (owner.the_row B).coded
-      (invariant A.Denot) (invariant B.Denot) (λ it p q. refl) (λ it p q. refl) (λ it ok. tt) (λ it ok. tt) (over (inside.the_row A)) (over (inside.the_row B)) fields
+      let fields =
+      struct_places (inside.the_type A) (inside.the_type B) (refilled, tt) _ (λ it. refl) refl
+      (laid _ _ _ (blocks same), tt) in
+      view_places within this view (λ X Y k it. refl) (λ X it. refl) A.Denot B.Denot h (owner.the_row A).coded
+      (owner.the_row B).coded
+      (invariant A.Denot) (invariant B.Denot) (λ it p q. refl) (λ it p q. refl) (λ it ok. tt) (λ it ok. tt)
+      (over (inside.the_row A)) (over (inside.the_row B)) fields

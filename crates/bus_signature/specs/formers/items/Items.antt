@@ -1,4 +1,5 @@
--- How `Items` holds its values, so that a type may hold itself through it: seen, it is the list of them; within, they lie in a `Vec`.
+-- How `Items` holds its values, so that a type may hold itself through it: seen, it is the list of them; within, they
+-- lie in a `Vec`.
 use mathlib.Core.Former.{Former, this, list, via, children}
 use mathlib.Core.List.{List, []}
 use mathlib.Core.Path.{◌≡◌, refl, sym}
@@ -32,12 +33,15 @@ the_empty = []
 abbrev pub the_items : (X : Type 0) → List X → List X
 the_items X values = values
 
-pub the_items_listed : (X : Type 0) (values : List X) → listed _ (children (the_former this) X values) ≡ the_items X values
+pub the_items_listed : (X : Type 0) (values : List X)
+    → listed _ (children (the_former this) X values) ≡ the_items X values
 the_items_listed = list-listed
 
 -- as it lies within
 abbrev within : Former {0}
-within = via (vec.the_former this Global) Inside (λ X it. it.values) (λ X values. record { values = values }) (λ X it. refl) (λ X values. refl)
+within =
+    via (vec.the_former this Global) Inside (λ X it. it.values) (λ X values. record { values = values }) (λ X it. refl)
+    (λ X values. refl)
 
 module _ (A B : RattleType) (h : A.Denot → B.Denot) where
   abbrev moved : List A.Denot → List B.Denot
@@ -49,6 +53,9 @@ module _ (A B : RattleType) (h : A.Denot → B.Denot) where
   pub the_places : Alike A B h → Alike (owner.the_row A) (owner.the_row B) moved
   the_places same =
       let values = laid _ _ _ (vec.the_places global.the_row ghosts A B h same) in
-      let fields = struct_places (inside.the_type A) (inside.the_type B) (vec.mapped h, tt) _ (λ it. refl) refl (values, tt) in
-      view_places within (the_former this) view (λ X Y k it. refl) (λ X it. refl) A.Denot B.Denot h (owner.the_row A).coded (owner.the_row B).coded
-      (invariant A.Denot) (invariant B.Denot) (λ it p q. refl) (λ it p q. refl) (λ it ok. tt) (λ it ok. tt) (over (inside.the_row A)) (over (inside.the_row B)) fields
+      let fields =
+      struct_places (inside.the_type A) (inside.the_type B) (vec.mapped h, tt) _ (λ it. refl) refl (values, tt) in
+      view_places within (the_former this) view (λ X Y k it. refl) (λ X it. refl) A.Denot B.Denot h
+      (owner.the_row A).coded (owner.the_row B).coded
+      (invariant A.Denot) (invariant B.Denot) (λ it p q. refl) (λ it p q. refl) (λ it ok. tt) (λ it ok. tt)
+      (over (inside.the_row A)) (over (inside.the_row B)) fields

@@ -13,7 +13,15 @@ pub returns-clause-stands : goal.returns-clause-stands
 returns-clause-stands c =
     let own : List ℕ → ClientPart = λ hello. record { hello = hello; flatpak = c.args.config.now.flatpak; expected = c.args.expected; passes = c.args.passes } in
     let settings : List ℕ → Settings = λ hello. record { hello = hello; flatpak = c.args.config.now.flatpak; expected = c.args.expected; passes = c.args.passes } in
-    let o : Opening = record { part = part.Client (own c.in_ok-hello.hello); stage = stage.Client client_stage.First; waiting = c.in_ok-outbox.outbox.waiting; count = 0; rest = []; written = c.in_ok-outbox.outbox.written; ended = false } in
+    let o : Opening = record {
+      part = part.Client (own c.in_ok-hello.hello);
+      stage = stage.Client client_stage.First;
+      waiting = c.in_ok-outbox.outbox.waiting;
+      count = 0;
+      rest = [];
+      written = c.in_ok-outbox.outbox.written;
+      ended = false;
+    } in
     let line : c.as_slice.result.now ≡ 0 ∷ auth_line c.mechanism_of-mechanism.result c.args.config.now.user ++ end = c.as_slice.ensures.value ∙ c.in_ok-line.ensures in
     let chosen = ap (λ (m : AuthMechanism). 0 ∷ auth_line m c.args.config.now.user ++ end) c.mechanism_of-mechanism.ensures in
     let terms = terms_of c.args.config.now c.args.expected c.args.passes c.args.tcp c.args.nonce.now in
