@@ -39,7 +39,7 @@ FORMS = [
     ("wait fault", r"wait fault"),
 ]
 COMPILED = [(kind, re.compile(form, re.DOTALL)) for kind, form in FORMS]
-NOT_BUILT = {"start", "dial peers", "dial nonce", "dial output", "now", "notify"}
+NOT_BUILT = {"start", "now", "notify"}
 
 
 class Refused(Exception):
@@ -69,7 +69,7 @@ class Server:
 class Script:
     rounds: int = 0
     sessions: list = dataclasses.field(default_factory=list)
-    # the answers to each session's dialling (whether the wire passes descriptors, or None), reads and sends
+    # the answers to each session's dialling (whether the wire passes descriptors, or None, as also for what opens none), reads and sends
     dials: dict = dataclasses.field(default_factory=dict)
     reads: dict = dataclasses.field(default_factory=dict)
     sends: dict = dataclasses.field(default_factory=dict)

@@ -16,6 +16,9 @@ add fault|add|add ok|modify maybe|wait|wait reports |wait reports 0|wait reports
 wait reports k18446744073709551616r|wait reports k18446744073709551615r|wait interrupted |bogus|unix|# a note|"""
 OTHERS = [line for row in OTHERS.split("\n") for line in row.split("|")]
 
+# answers to other questions than those for a connection
+UNASKED = ["peers", "peers 4-7f000001-80 6-00000000000000000000000000000001-80", "nonce 00", "output y 756e69783a706174683d2f61"]
+
 # what a peer may say besides what leads on
 COMMANDS = f"""AUTH|AUTH EXTERNAL|AUTH EXTERNAL 31303030|AUTH EXTERNAL 31303031|AUTH EXTERNAL 2b303037|AUTH EXTERNAL 34323934393637323936|AUTH EXTERNAL 78
 AUTH EXTERNAL ff|AUTH ANONYMOUS|AUTH ANONYMOUS 7a|AUTH KERBEROS|AUTH EXTERNAL 3|CANCEL|BEGIN|BEGIN x|DATA|DATA 31303030|DATA 37|DATA zz|DATA 2b
@@ -112,7 +115,7 @@ def queues(rng, servers):
     found = []
     for number, server in enumerate(servers):
         if rng.random() < 0.9:
-            found.append([f"dial {number} {rng.choice(['open n', 'open y'] * 4 + ['fault'])}"])
+            found.append([f"dial {number} {rng.choice(['open n', 'open y'] * 4 + ['fault', rng.choice(UNASKED)])}"])
         if rng.random() < 0.9:
             found.append([f"recv {number} {answer}" for answer in reads(rng, server)])
         found.append([f"send {number} {answer}" for answer in sends(rng)])
