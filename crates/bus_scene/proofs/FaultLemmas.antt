@@ -1,5 +1,6 @@
 -- What one more event does to the counts of faults.
-use Rattle.std.proofs.Common.{◌≡◌, ◌≢◌, ℕ, ◌+◌, Bool, true, false, cond, List, [], ◌∷◌, ◌++◌, refl, sym, subst, ap, ◌∙◌, arith, eq-eqb, Option, Some, None, Result, Ok, Err, length, take, inr}
+use Rattle.std.proofs.Common.{◌≡◌, ◌≢◌, ℕ, ◌+◌, Bool, true, false, cond, List, [], ◌∷◌, ◌++◌, refl, sym, subst, ap}
+use Rattle.std.proofs.Common.{◌∙◌, arith, eq-eqb, Option, Some, None, Result, Ok, Err, length, take, inr}
 use Rattle.std.specs.Prelude.{count_by, ◌==◌}
 use Rattle.std.proofs.Math.Path.{fun_ext}
 use Rattle.std.proofs.lemmas.List.{append-nil}
@@ -7,9 +8,6 @@ use Rattle.std.proofs.lemmas.List.Sums.{fold-append}
 use Rattle.react_core.specs.Outer.{with_room, Part, Keeps, keeps-same}
 use Rattle.react_core.specs.Outer as part
 use Rattle.react_core.specs.Told.{Rose, SameBut}
-use Rattle.react_core.specs.declared.outside.Question.{Question}
-use Rattle.react_core.specs.declared.outside.DialAnswer.{DialAnswer}
-use Rattle.react_core.specs.declared.outside.DialAnswer.TheVariants as dial_answer
 use Rattle.react_core.specs.declared.outside.Event.{Event}
 use Rattle.react_core.specs.Told.{Counted, send_told, recv_told, wait_told}
 use Rattle.react_core.specs.declared.outside.Event.TheVariants as event
@@ -27,8 +25,8 @@ use Rattle.react_core.specs.declared.outside.Waited.TheVariants as waited
 use Rattle.react_core.specs.declared.outside.Sent.{Sent}
 use Rattle.react_core.specs.declared.outside.Sent.TheVariants as sent
 use Rattle.bus_scene.specs.Queues.{Queues}
-use Rattle.bus_scene.specs.Plays.{Play, counted, outer_of, later, last_reading, is_poller_fault, is_wire_fault, is_dial_fault, faults_of_poller, faults_of_wire, faults_of_dials}
-use Rattle.bus_scene.specs.Cursors.{dialled}
+use Rattle.bus_scene.specs.Plays.{Play, counted, outer_of, later, last_reading, is_poller_fault, is_wire_fault}
+use Rattle.bus_scene.specs.Plays.{is_dial_fault, faults_of_poller, faults_of_wire, faults_of_dials}
 use Rattle.bus_scene.proofs.PlayLemmas.{last_reading-last}
 
 pub count_one : (p : Event → Bool) (told told' : List Event) (e : Event) → told' ≡ told ++ e ∷ [] →
@@ -53,11 +51,13 @@ pub poller_rose : (told told' : List Event) (e : Event) → told' ≡ told ++ e 
     Rose (faults_of_poller told) (faults_of_poller told')
 poller_rose told told' e now counted = count_rose is_poller_fault told told' e now counted
 
-pub wires_same : (told told' : List Event) (e : Event) → told' ≡ told ++ e ∷ [] → ((w : ℕ) → is_wire_fault w e ≡ false) →
+pub wires_same : (told told' : List Event) (e : Event) → told' ≡ told ++ e ∷ [] →
+    ((w : ℕ) → is_wire_fault w e ≡ false) →
     faults_of_wire told' ≡ faults_of_wire told
 wires_same told told' e now spared = fun_ext (λ w. count_same (is_wire_fault w) told told' e now (spared w))
 
-pub dials_same : (told told' : List Event) (e : Event) → told' ≡ told ++ e ∷ [] → ((w : ℕ) → is_dial_fault w e ≡ false) →
+pub dials_same : (told told' : List Event) (e : Event) → told' ≡ told ++ e ∷ [] →
+    ((w : ℕ) → is_dial_fault w e ≡ false) →
     faults_of_dials told' ≡ faults_of_dials told
 dials_same told told' e now spared = fun_ext (λ w. count_same (is_dial_fault w) told told' e now (spared w))
 
@@ -71,71 +71,116 @@ pub other_wire : (w wire : ℕ) → w ≢ wire → (wire == w) ≡ false
 other_wire w wire h = grind arith
 
 -- what a send does to the counts
-pub send_cause : (told told' : List Event) (wire : ℕ) (bytes : List ℕ) (result : Result Sent Fault) → told' ≡ told ++ send_told wire bytes result →
+pub send_cause : (told told' : List Event) (wire : ℕ) (bytes : List ℕ) (result : Result Sent Fault) →
+    told' ≡ told ++ send_told wire bytes result →
     Counted result (faults_of_wire told wire) (faults_of_wire told' wire)
-send_cause told told' wire bytes (Ok (sent.Took n)) now = count_same (is_wire_fault wire) told told' (event.Send wire bytes (send_answer.Took n)) now refl
-send_cause told told' wire bytes (Ok sent.NotReady) now = count_same (is_wire_fault wire) told told' (event.Send wire bytes send_answer.NotReady) now refl
-send_cause told told' wire bytes (Err fault.Failed) now = count_rose (is_wire_fault wire) told told' (event.Send wire bytes send_answer.Failed) now (eq-eqb wire wire refl)
+send_cause told told' wire bytes (Ok (sent.Took n)) now =
+    count_same (is_wire_fault wire) told told' (event.Send wire bytes (send_answer.Took n)) now refl
+send_cause told told' wire bytes (Ok sent.NotReady) now =
+    count_same (is_wire_fault wire) told told' (event.Send wire bytes send_answer.NotReady) now refl
+send_cause told told' wire bytes (Err fault.Failed) now =
+    count_rose (is_wire_fault wire) told told' (event.Send wire bytes send_answer.Failed) now (eq-eqb wire wire refl)
 send_cause told told' wire bytes (Err fault.OutOfMemory) now = ap (λ t. faults_of_wire t wire) (now ∙ append-nil told)
 
-pub send_others : (told told' : List Event) (wire : ℕ) (bytes : List ℕ) (result : Result Sent Fault) → told' ≡ told ++ send_told wire bytes result →
+pub send_others : (told told' : List Event) (wire : ℕ) (bytes : List ℕ) (result : Result Sent Fault) →
+    told' ≡ told ++ send_told wire bytes result →
     SameBut wire (faults_of_wire told) (faults_of_wire told')
-send_others told told' wire bytes (Ok (sent.Took n)) now = λ w other. count_same (is_wire_fault w) told told' (event.Send wire bytes (send_answer.Took n)) now refl
-send_others told told' wire bytes (Ok sent.NotReady) now = λ w other. count_same (is_wire_fault w) told told' (event.Send wire bytes send_answer.NotReady) now refl
-send_others told told' wire bytes (Err fault.Failed) now = λ w other. count_same (is_wire_fault w) told told' (event.Send wire bytes send_answer.Failed) now (other_wire w wire other)
-send_others told told' wire bytes (Err fault.OutOfMemory) now = λ w other. ap (λ t. faults_of_wire t w) (now ∙ append-nil told)
+send_others told told' wire bytes (Ok (sent.Took n)) now =
+    λ w other. count_same (is_wire_fault w) told told' (event.Send wire bytes (send_answer.Took n)) now refl
+send_others told told' wire bytes (Ok sent.NotReady) now =
+    λ w other. count_same (is_wire_fault w) told told' (event.Send wire bytes send_answer.NotReady) now refl
+send_others told told' wire bytes (Err fault.Failed) now =
+    λ w other. count_same (is_wire_fault w) told told' (event.Send wire bytes send_answer.Failed) now
+    (other_wire w wire other)
+send_others told told' wire bytes (Err fault.OutOfMemory) now =
+    λ w other. ap (λ t. faults_of_wire t w) (now ∙ append-nil told)
 
-pub send_dials : (told told' : List Event) (wire : ℕ) (bytes : List ℕ) (result : Result Sent Fault) → told' ≡ told ++ send_told wire bytes result →
+pub send_dials : (told told' : List Event) (wire : ℕ) (bytes : List ℕ) (result : Result Sent Fault) →
+    told' ≡ told ++ send_told wire bytes result →
     faults_of_dials told' ≡ faults_of_dials told
-send_dials told told' wire bytes (Ok (sent.Took n)) now = dials_same told told' (event.Send wire bytes (send_answer.Took n)) now (λ w. refl)
-send_dials told told' wire bytes (Ok sent.NotReady) now = dials_same told told' (event.Send wire bytes send_answer.NotReady) now (λ w. refl)
-send_dials told told' wire bytes (Err fault.Failed) now = dials_same told told' (event.Send wire bytes send_answer.Failed) now (λ w. refl)
+send_dials told told' wire bytes (Ok (sent.Took n)) now =
+    dials_same told told' (event.Send wire bytes (send_answer.Took n)) now (λ w. refl)
+send_dials told told' wire bytes (Ok sent.NotReady) now =
+    dials_same told told' (event.Send wire bytes send_answer.NotReady) now (λ w. refl)
+send_dials told told' wire bytes (Err fault.Failed) now =
+    dials_same told told' (event.Send wire bytes send_answer.Failed) now (λ w. refl)
 send_dials told told' wire bytes (Err fault.OutOfMemory) now = dials_none told told' now
 
 -- what a recv does to the counts
-pub recv_cause : (told told' : List Event) (wire : ℕ) (into : List ℕ) (result : Result Received Fault) → told' ≡ told ++ recv_told wire into result →
+pub recv_cause : (told told' : List Event) (wire : ℕ) (into : List ℕ) (result : Result Received Fault) →
+    told' ≡ told ++ recv_told wire into result →
     Counted result (faults_of_wire told wire) (faults_of_wire told' wire)
-recv_cause told told' wire into (Ok (received.Got n)) now = count_same (is_wire_fault wire) told told' (event.Recv wire (length into) (recv_answer.Got (take n into))) now refl
-recv_cause told told' wire into (Ok received.End) now = count_same (is_wire_fault wire) told told' (event.Recv wire (length into) recv_answer.End) now refl
-recv_cause told told' wire into (Ok received.NotReady) now = count_same (is_wire_fault wire) told told' (event.Recv wire (length into) recv_answer.NotReady) now refl
-recv_cause told told' wire into (Err fault.Failed) now = count_rose (is_wire_fault wire) told told' (event.Recv wire (length into) recv_answer.Failed) now (eq-eqb wire wire refl)
+recv_cause told told' wire into (Ok (received.Got n)) now =
+    count_same (is_wire_fault wire) told told' (event.Recv wire (length into) (recv_answer.Got (take n into))) now refl
+recv_cause told told' wire into (Ok received.End) now =
+    count_same (is_wire_fault wire) told told' (event.Recv wire (length into) recv_answer.End) now refl
+recv_cause told told' wire into (Ok received.NotReady) now =
+    count_same (is_wire_fault wire) told told' (event.Recv wire (length into) recv_answer.NotReady) now refl
+recv_cause told told' wire into (Err fault.Failed) now =
+    count_rose (is_wire_fault wire) told told' (event.Recv wire (length into) recv_answer.Failed) now
+    (eq-eqb wire wire refl)
 recv_cause told told' wire into (Err fault.OutOfMemory) now = ap (λ t. faults_of_wire t wire) (now ∙ append-nil told)
 
-pub recv_others : (told told' : List Event) (wire : ℕ) (into : List ℕ) (result : Result Received Fault) → told' ≡ told ++ recv_told wire into result →
+pub recv_others : (told told' : List Event) (wire : ℕ) (into : List ℕ) (result : Result Received Fault) →
+    told' ≡ told ++ recv_told wire into result →
     SameBut wire (faults_of_wire told) (faults_of_wire told')
-recv_others told told' wire into (Ok (received.Got n)) now = λ w other. count_same (is_wire_fault w) told told' (event.Recv wire (length into) (recv_answer.Got (take n into))) now refl
-recv_others told told' wire into (Ok received.End) now = λ w other. count_same (is_wire_fault w) told told' (event.Recv wire (length into) recv_answer.End) now refl
-recv_others told told' wire into (Ok received.NotReady) now = λ w other. count_same (is_wire_fault w) told told' (event.Recv wire (length into) recv_answer.NotReady) now refl
-recv_others told told' wire into (Err fault.Failed) now = λ w other. count_same (is_wire_fault w) told told' (event.Recv wire (length into) recv_answer.Failed) now (other_wire w wire other)
-recv_others told told' wire into (Err fault.OutOfMemory) now = λ w other. ap (λ t. faults_of_wire t w) (now ∙ append-nil told)
+recv_others told told' wire into (Ok (received.Got n)) now =
+    λ w other. count_same (is_wire_fault w) told told' (event.Recv wire (length into) (recv_answer.Got (take n into)))
+    now refl
+recv_others told told' wire into (Ok received.End) now =
+    λ w other. count_same (is_wire_fault w) told told' (event.Recv wire (length into) recv_answer.End) now refl
+recv_others told told' wire into (Ok received.NotReady) now =
+    λ w other. count_same (is_wire_fault w) told told' (event.Recv wire (length into) recv_answer.NotReady) now refl
+recv_others told told' wire into (Err fault.Failed) now =
+    λ w other. count_same (is_wire_fault w) told told' (event.Recv wire (length into) recv_answer.Failed) now
+    (other_wire w wire other)
+recv_others told told' wire into (Err fault.OutOfMemory) now =
+    λ w other. ap (λ t. faults_of_wire t w) (now ∙ append-nil told)
 
-pub recv_dials : (told told' : List Event) (wire : ℕ) (into : List ℕ) (result : Result Received Fault) → told' ≡ told ++ recv_told wire into result →
+pub recv_dials : (told told' : List Event) (wire : ℕ) (into : List ℕ) (result : Result Received Fault) →
+    told' ≡ told ++ recv_told wire into result →
     faults_of_dials told' ≡ faults_of_dials told
-recv_dials told told' wire into (Ok (received.Got n)) now = dials_same told told' (event.Recv wire (length into) (recv_answer.Got (take n into))) now (λ w. refl)
-recv_dials told told' wire into (Ok received.End) now = dials_same told told' (event.Recv wire (length into) recv_answer.End) now (λ w. refl)
-recv_dials told told' wire into (Ok received.NotReady) now = dials_same told told' (event.Recv wire (length into) recv_answer.NotReady) now (λ w. refl)
-recv_dials told told' wire into (Err fault.Failed) now = dials_same told told' (event.Recv wire (length into) recv_answer.Failed) now (λ w. refl)
+recv_dials told told' wire into (Ok (received.Got n)) now =
+    dials_same told told' (event.Recv wire (length into) (recv_answer.Got (take n into))) now (λ w. refl)
+recv_dials told told' wire into (Ok received.End) now =
+    dials_same told told' (event.Recv wire (length into) recv_answer.End) now (λ w. refl)
+recv_dials told told' wire into (Ok received.NotReady) now =
+    dials_same told told' (event.Recv wire (length into) recv_answer.NotReady) now (λ w. refl)
+recv_dials told told' wire into (Err fault.Failed) now =
+    dials_same told told' (event.Recv wire (length into) recv_answer.Failed) now (λ w. refl)
 recv_dials told told' wire into (Err fault.OutOfMemory) now = dials_none told told' now
 
 -- what a wait leaves alone
-pub wait_wires : (told told' : List Event) (timeout : Option ℕ) (reports : List Report) (result : Result Waited Fault) → told' ≡ told ++ wait_told timeout reports result →
+pub wait_wires : (told told' : List Event) (timeout : Option ℕ) (reports : List Report) (result : Result Waited Fault) →
+    told' ≡ told ++ wait_told timeout reports result →
     faults_of_wire told' ≡ faults_of_wire told
-wait_wires told told' timeout reports (Ok (waited.Reported n)) now = wires_same told told' (event.Wait timeout (wait_answer.Reported (take n reports))) now (λ w. refl)
-wait_wires told told' timeout reports (Ok waited.Interrupted) now = wires_same told told' (event.Wait timeout wait_answer.Interrupted) now (λ w. refl)
-wait_wires told told' timeout reports (Err fault.Failed) now = wires_same told told' (event.Wait timeout wait_answer.Failed) now (λ w. refl)
+wait_wires told told' timeout reports (Ok (waited.Reported n)) now =
+    wires_same told told' (event.Wait timeout (wait_answer.Reported (take n reports))) now (λ w. refl)
+wait_wires told told' timeout reports (Ok waited.Interrupted) now =
+    wires_same told told' (event.Wait timeout wait_answer.Interrupted) now (λ w. refl)
+wait_wires told told' timeout reports (Err fault.Failed) now =
+    wires_same told told' (event.Wait timeout wait_answer.Failed) now (λ w. refl)
 wait_wires told told' timeout reports (Err fault.OutOfMemory) now = wires_none told told' now
 
-pub wait_dials : (told told' : List Event) (timeout : Option ℕ) (reports : List Report) (result : Result Waited Fault) → told' ≡ told ++ wait_told timeout reports result →
+pub wait_dials : (told told' : List Event) (timeout : Option ℕ) (reports : List Report) (result : Result Waited Fault) →
+    told' ≡ told ++ wait_told timeout reports result →
     faults_of_dials told' ≡ faults_of_dials told
-wait_dials told told' timeout reports (Ok (waited.Reported n)) now = dials_same told told' (event.Wait timeout (wait_answer.Reported (take n reports))) now (λ w. refl)
-wait_dials told told' timeout reports (Ok waited.Interrupted) now = dials_same told told' (event.Wait timeout wait_answer.Interrupted) now (λ w. refl)
-wait_dials told told' timeout reports (Err fault.Failed) now = dials_same told told' (event.Wait timeout wait_answer.Failed) now (λ w. refl)
+wait_dials told told' timeout reports (Ok (waited.Reported n)) now =
+    dials_same told told' (event.Wait timeout (wait_answer.Reported (take n reports))) now (λ w. refl)
+wait_dials told told' timeout reports (Ok waited.Interrupted) now =
+    dials_same told told' (event.Wait timeout wait_answer.Interrupted) now (λ w. refl)
+wait_dials told told' timeout reports (Err fault.Failed) now =
+    dials_same told told' (event.Wait timeout wait_answer.Failed) now (λ w. refl)
 wait_dials told told' timeout reports (Err fault.OutOfMemory) now = dials_none told told' now
 
 -- ---- what contracts see of a scene, after a call
 
+pub counted_rose : (before now : ℕ) → Rose before now → Rose (counted before) (counted now)
+counted_rose before now rose = omega (arith, rose)
+
 -- the counts that stand still at their type's end rise and stay as the faults do
-pub counted_cause : {T : Type 0} (result : Result T Fault) (before now : ℕ) → Counted result before now → Counted result (counted before) (counted now)
+pub counted_cause : {T : Type 0} (result : Result T Fault) (before now : ℕ) → Counted result before now →
+    Counted result (counted before) (counted now)
 counted_cause (Ok v) before now c = ap counted c
 counted_cause (Err fault.Failed) before now c = omega (arith, c)
 counted_cause (Err fault.OutOfMemory) before now c = ap counted c
@@ -147,22 +192,28 @@ record_of : (s s' : Queues) (r r' : Rooms) (t t' : List Event) → s' ≡ s → 
 record_of s s' r r' t t' a b c = λ i. play (a i) (b i) (c i)
 
 -- nothing was told
-pub keeps_none : (part : Part) (before after : Play) → after.script ≡ before.script → after.rooms ≡ before.rooms → after.told ≡ before.told → Keeps part (outer_of before) (outer_of after)
+pub keeps_none : (part : Part) (before after : Play) → after.script ≡ before.script → after.rooms ≡ before.rooms →
+    after.told ≡ before.told → Keeps part (outer_of before) (outer_of after)
 keeps_none part before after script rooms told =
-    subst (λ (p : Play). Keeps part (outer_of before) (outer_of p)) (sym (record_of before.script after.script before.rooms after.rooms before.told after.told script rooms told)) (keeps-same part (outer_of before))
+    subst (λ (p : Play). Keeps part (outer_of before) (outer_of p))
+    (sym (record_of before.script after.script before.rooms after.rooms before.told after.told script rooms told))
+    (keeps-same part (outer_of before))
 
-abbrev counted_each : (ℕ → ℕ) → ℕ → ℕ
+abbrev pub counted_each : (ℕ → ℕ) → ℕ → ℕ
 counted_each f wire = counted (f wire)
 
-all_counted : (f g : ℕ → ℕ) → f ≡ g → counted_each f ≡ counted_each g
+pub all_counted : (f g : ℕ → ℕ) → f ≡ g → counted_each f ≡ counted_each g
 all_counted f g same = ap counted_each same
 
-moment_same : (told told' : List Event) (e : Event) → told' ≡ told ++ e ∷ [] → later (last_reading told) e ≡ last_reading told → last_reading told' ≡ last_reading told
+pub moment_same : (told told' : List Event) (e : Event) → told' ≡ told ++ e ∷ [] →
+    later (last_reading told) e ≡ last_reading told → last_reading told' ≡ last_reading told
 moment_same told told' e now quiet = ap last_reading now ∙ last_reading-last told e ∙ quiet
 
 -- a call of the poller
-pub keeps_poller : (before after : Play) (e : Event) → after.script ≡ before.script → after.rooms ≡ before.rooms → after.told ≡ before.told ++ e ∷ [] →
-    later (last_reading before.told) e ≡ last_reading before.told → ((w : ℕ) → is_wire_fault w e ≡ false) → ((w : ℕ) → is_dial_fault w e ≡ false) →
+pub keeps_poller : (before after : Play) (e : Event) → after.script ≡ before.script → after.rooms ≡ before.rooms →
+    after.told ≡ before.told ++ e ∷ [] →
+    later (last_reading before.told) e ≡ last_reading before.told → ((w : ℕ) → is_wire_fault w e ≡ false) →
+    ((w : ℕ) → is_dial_fault w e ≡ false) →
     Keeps part.Poller (outer_of before) (outer_of after)
 keeps_poller before after e script rooms now quiet wires dials = record {
   origin = script;
@@ -175,7 +226,8 @@ keeps_poller before after e script rooms now quiet wires dials = record {
   ample = refl;
 }
 
-pub keeps_clock : (before after : Play) (t : ℕ) → after.script ≡ before.script → after.rooms ≡ before.rooms → after.told ≡ before.told ++ event.Now t ∷ [] → Keeps part.Clock (outer_of before) (outer_of after)
+pub keeps_clock : (before after : Play) (t : ℕ) → after.script ≡ before.script → after.rooms ≡ before.rooms →
+    after.told ≡ before.told ++ event.Now t ∷ [] → Keeps part.Clock (outer_of before) (outer_of after)
 keeps_clock before after t script rooms now = record {
   origin = script;
   moment = tt;
@@ -187,7 +239,8 @@ keeps_clock before after t script rooms now = record {
   ample = refl;
 }
 
-pub keeps_close : (before after : Play) (wire : ℕ) → after.script ≡ before.script → after.rooms ≡ before.rooms → after.told ≡ before.told ++ event.Close wire ∷ [] → Keeps part.Record (outer_of before) (outer_of after)
+pub keeps_close : (before after : Play) (wire : ℕ) → after.script ≡ before.script → after.rooms ≡ before.rooms →
+    after.told ≡ before.told ++ event.Close wire ∷ [] → Keeps part.Record (outer_of before) (outer_of after)
 keeps_close before after wire script rooms now = record {
   origin = script;
   moment = moment_same before.told after.told (event.Close wire) now refl;
@@ -199,71 +252,65 @@ keeps_close before after wire script rooms now = record {
   ample = refl;
 }
 
-dial_other : (w wire : ℕ) (asked : Question) (a : DialAnswer) → w ≢ wire → is_dial_fault w (event.Dial wire asked a) ≡ false
-dial_other w wire asked (dial_answer.Opened passes) other = refl
-dial_other w wire asked (dial_answer.Found peers) other = refl
-dial_other w wire asked (dial_answer.Nonce bytes) other = refl
-dial_other w wire asked (dial_answer.Output success text) other = refl
-dial_other w wire asked dial_answer.Failed other = other_wire w wire other
-
-pub keeps_dial : (before after : Play) (wire : ℕ) (asked : Question) (a : DialAnswer) → after.script ≡ before.script → after.rooms ≡ before.rooms → after.told ≡ before.told ++ event.Dial wire asked a ∷ [] →
-    Keeps (part.Dial wire) (outer_of before) (outer_of after)
-keeps_dial before after wire asked a script rooms now = record {
-  origin = script;
-  moment = moment_same before.told after.told (event.Dial wire asked a) now refl;
-  poller = ap counted (poller_same before.told after.told (event.Dial wire asked a) now refl);
-  wires = all_counted _ _ (wires_same before.told after.told (event.Dial wire asked a) now (λ w. refl));
-  dials = λ w other. ap counted (count_same (is_dial_fault w) before.told after.told (event.Dial wire asked a) now (dial_other w wire asked a other));
-  rooms = ap Some rooms;
-  doors = refl;
-  ample = refl;
-}
-
--- the dialling failed exactly where its count rose
-pub dial_quiet : (told told' : List Event) (wire : ℕ) (asked : Question) (passes : Option Bool) (p : Bool) → passes ≡ Some p → told' ≡ told ++ event.Dial wire asked (dialled passes) ∷ [] →
-    counted (faults_of_dials told' wire) ≡ counted (faults_of_dials told wire)
-dial_quiet told told' wire asked passes p is now = ap counted (count_same (is_dial_fault wire) told told' (event.Dial wire asked (dialled passes)) now (rw is refl))
-
-pub dial_rose : (told told' : List Event) (wire : ℕ) (asked : Question) (passes : Option Bool) → passes ≡ None → told' ≡ told ++ event.Dial wire asked (dialled passes) ∷ [] →
-    Rose (counted (faults_of_dials told wire)) (counted (faults_of_dials told' wire))
-dial_rose told told' wire asked passes is now =
-    let rose : Rose (faults_of_dials told wire) (faults_of_dials told' wire) = count_rose (is_dial_fault wire) told told' (event.Dial wire asked (dialled passes)) now (rw is (eq-eqb wire wire refl)) in
-    omega (arith, rose)
-
 -- a send, a read and a wait, by what they tell
-pub send_moment : (told told' : List Event) (wire : ℕ) (bytes : List ℕ) (result : Result Sent Fault) → told' ≡ told ++ send_told wire bytes result → last_reading told' ≡ last_reading told
-send_moment told told' wire bytes (Ok (sent.Took n)) now = moment_same told told' (event.Send wire bytes (send_answer.Took n)) now refl
-send_moment told told' wire bytes (Ok sent.NotReady) now = moment_same told told' (event.Send wire bytes send_answer.NotReady) now refl
-send_moment told told' wire bytes (Err fault.Failed) now = moment_same told told' (event.Send wire bytes send_answer.Failed) now refl
+pub send_moment : (told told' : List Event) (wire : ℕ) (bytes : List ℕ) (result : Result Sent Fault) →
+    told' ≡ told ++ send_told wire bytes result → last_reading told' ≡ last_reading told
+send_moment told told' wire bytes (Ok (sent.Took n)) now =
+    moment_same told told' (event.Send wire bytes (send_answer.Took n)) now refl
+send_moment told told' wire bytes (Ok sent.NotReady) now =
+    moment_same told told' (event.Send wire bytes send_answer.NotReady) now refl
+send_moment told told' wire bytes (Err fault.Failed) now =
+    moment_same told told' (event.Send wire bytes send_answer.Failed) now refl
 send_moment told told' wire bytes (Err fault.OutOfMemory) now = ap last_reading (now ∙ append-nil told)
 
-pub send_poller : (told told' : List Event) (wire : ℕ) (bytes : List ℕ) (result : Result Sent Fault) → told' ≡ told ++ send_told wire bytes result → faults_of_poller told' ≡ faults_of_poller told
-send_poller told told' wire bytes (Ok (sent.Took n)) now = poller_same told told' (event.Send wire bytes (send_answer.Took n)) now refl
-send_poller told told' wire bytes (Ok sent.NotReady) now = poller_same told told' (event.Send wire bytes send_answer.NotReady) now refl
-send_poller told told' wire bytes (Err fault.Failed) now = poller_same told told' (event.Send wire bytes send_answer.Failed) now refl
+pub send_poller : (told told' : List Event) (wire : ℕ) (bytes : List ℕ) (result : Result Sent Fault) →
+    told' ≡ told ++ send_told wire bytes result → faults_of_poller told' ≡ faults_of_poller told
+send_poller told told' wire bytes (Ok (sent.Took n)) now =
+    poller_same told told' (event.Send wire bytes (send_answer.Took n)) now refl
+send_poller told told' wire bytes (Ok sent.NotReady) now =
+    poller_same told told' (event.Send wire bytes send_answer.NotReady) now refl
+send_poller told told' wire bytes (Err fault.Failed) now =
+    poller_same told told' (event.Send wire bytes send_answer.Failed) now refl
 send_poller told told' wire bytes (Err fault.OutOfMemory) now = ap faults_of_poller (now ∙ append-nil told)
 
-pub recv_moment : (told told' : List Event) (wire : ℕ) (into : List ℕ) (result : Result Received Fault) → told' ≡ told ++ recv_told wire into result → last_reading told' ≡ last_reading told
-recv_moment told told' wire into (Ok (received.Got n)) now = moment_same told told' (event.Recv wire (length into) (recv_answer.Got (take n into))) now refl
-recv_moment told told' wire into (Ok received.End) now = moment_same told told' (event.Recv wire (length into) recv_answer.End) now refl
-recv_moment told told' wire into (Ok received.NotReady) now = moment_same told told' (event.Recv wire (length into) recv_answer.NotReady) now refl
-recv_moment told told' wire into (Err fault.Failed) now = moment_same told told' (event.Recv wire (length into) recv_answer.Failed) now refl
+pub recv_moment : (told told' : List Event) (wire : ℕ) (into : List ℕ) (result : Result Received Fault) →
+    told' ≡ told ++ recv_told wire into result → last_reading told' ≡ last_reading told
+recv_moment told told' wire into (Ok (received.Got n)) now =
+    moment_same told told' (event.Recv wire (length into) (recv_answer.Got (take n into))) now refl
+recv_moment told told' wire into (Ok received.End) now =
+    moment_same told told' (event.Recv wire (length into) recv_answer.End) now refl
+recv_moment told told' wire into (Ok received.NotReady) now =
+    moment_same told told' (event.Recv wire (length into) recv_answer.NotReady) now refl
+recv_moment told told' wire into (Err fault.Failed) now =
+    moment_same told told' (event.Recv wire (length into) recv_answer.Failed) now refl
 recv_moment told told' wire into (Err fault.OutOfMemory) now = ap last_reading (now ∙ append-nil told)
 
-pub recv_poller : (told told' : List Event) (wire : ℕ) (into : List ℕ) (result : Result Received Fault) → told' ≡ told ++ recv_told wire into result → faults_of_poller told' ≡ faults_of_poller told
-recv_poller told told' wire into (Ok (received.Got n)) now = poller_same told told' (event.Recv wire (length into) (recv_answer.Got (take n into))) now refl
-recv_poller told told' wire into (Ok received.End) now = poller_same told told' (event.Recv wire (length into) recv_answer.End) now refl
-recv_poller told told' wire into (Ok received.NotReady) now = poller_same told told' (event.Recv wire (length into) recv_answer.NotReady) now refl
-recv_poller told told' wire into (Err fault.Failed) now = poller_same told told' (event.Recv wire (length into) recv_answer.Failed) now refl
+pub recv_poller : (told told' : List Event) (wire : ℕ) (into : List ℕ) (result : Result Received Fault) →
+    told' ≡ told ++ recv_told wire into result → faults_of_poller told' ≡ faults_of_poller told
+recv_poller told told' wire into (Ok (received.Got n)) now =
+    poller_same told told' (event.Recv wire (length into) (recv_answer.Got (take n into))) now refl
+recv_poller told told' wire into (Ok received.End) now =
+    poller_same told told' (event.Recv wire (length into) recv_answer.End) now refl
+recv_poller told told' wire into (Ok received.NotReady) now =
+    poller_same told told' (event.Recv wire (length into) recv_answer.NotReady) now refl
+recv_poller told told' wire into (Err fault.Failed) now =
+    poller_same told told' (event.Recv wire (length into) recv_answer.Failed) now refl
 recv_poller told told' wire into (Err fault.OutOfMemory) now = ap faults_of_poller (now ∙ append-nil told)
 
-pub wait_moment : (told told' : List Event) (timeout : Option ℕ) (reports : List Report) (result : Result Waited Fault) → told' ≡ told ++ wait_told timeout reports result → last_reading told' ≡ last_reading told
-wait_moment told told' timeout reports (Ok (waited.Reported n)) now = moment_same told told' (event.Wait timeout (wait_answer.Reported (take n reports))) now refl
-wait_moment told told' timeout reports (Ok waited.Interrupted) now = moment_same told told' (event.Wait timeout wait_answer.Interrupted) now refl
-wait_moment told told' timeout reports (Err fault.Failed) now = moment_same told told' (event.Wait timeout wait_answer.Failed) now refl
+pub wait_moment : (told told' : List Event) (timeout : Option ℕ) (reports : List Report)
+    (result : Result Waited Fault) → told' ≡ told ++ wait_told timeout reports result →
+    last_reading told' ≡ last_reading told
+wait_moment told told' timeout reports (Ok (waited.Reported n)) now =
+    moment_same told told' (event.Wait timeout (wait_answer.Reported (take n reports))) now refl
+wait_moment told told' timeout reports (Ok waited.Interrupted) now =
+    moment_same told told' (event.Wait timeout wait_answer.Interrupted) now refl
+wait_moment told told' timeout reports (Err fault.Failed) now =
+    moment_same told told' (event.Wait timeout wait_answer.Failed) now refl
 wait_moment told told' timeout reports (Err fault.OutOfMemory) now = ap last_reading (now ∙ append-nil told)
 
-pub keeps_send : (before after : Play) (wire : ℕ) (bytes : List ℕ) (result : Result Sent Fault) → after.script ≡ before.script → after.rooms ≡ before.rooms → after.told ≡ before.told ++ send_told wire bytes result →
+pub keeps_send : (before after : Play) (wire : ℕ) (bytes : List ℕ) (result : Result Sent Fault) →
+    after.script ≡ before.script → after.rooms ≡ before.rooms →
+    after.told ≡ before.told ++ send_told wire bytes result →
     Keeps (part.Wire wire) (outer_of before) (outer_of after)
 keeps_send before after wire bytes result script rooms now = record {
   origin = script;
@@ -276,7 +323,8 @@ keeps_send before after wire bytes result script rooms now = record {
   ample = refl;
 }
 
-pub keeps_recv : (before after : Play) (wire : ℕ) (into : List ℕ) (result : Result Received Fault) → after.script ≡ before.script → after.rooms ≡ before.rooms → after.told ≡ before.told ++ recv_told wire into result →
+pub keeps_recv : (before after : Play) (wire : ℕ) (into : List ℕ) (result : Result Received Fault) →
+    after.script ≡ before.script → after.rooms ≡ before.rooms → after.told ≡ before.told ++ recv_told wire into result →
     Keeps (part.Wire wire) (outer_of before) (outer_of after)
 keeps_recv before after wire into result script rooms now = record {
   origin = script;
@@ -289,8 +337,10 @@ keeps_recv before after wire into result script rooms now = record {
   ample = refl;
 }
 
-pub keeps_wait : (before after : Play) (room : ℕ) (timeout : Option ℕ) (reports : List Report) (result : Result Waited Fault) →
-    after.script ≡ before.script → after.rooms ≡ with_room before.rooms room → after.told ≡ before.told ++ wait_told timeout reports result →
+pub keeps_wait : (before after : Play) (room : ℕ) (timeout : Option ℕ) (reports : List Report)
+    (result : Result Waited Fault) →
+    after.script ≡ before.script → after.rooms ≡ with_room before.rooms room →
+    after.told ≡ before.told ++ wait_told timeout reports result →
     Keeps (part.Wait room) (outer_of before) (outer_of after)
 keeps_wait before after room timeout reports result script rooms now = record {
   origin = script;

@@ -1,3 +1,4 @@
+pub mod DialLemmas
 pub mod FaultLemmas
 pub mod PlayLemmas
 pub mod QueueLemmas

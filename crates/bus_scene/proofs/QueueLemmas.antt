@@ -1,5 +1,6 @@
 -- The places of queues, and what they leave.
-use Rattle.std.proofs.Common.{◌≡◌, ℕ, ◌+◌, ◌<◌, ◌≤◌, List, [], ◌∷◌, ◌++◌, length, drop, take, min, map, get_or, set, refl, sym, arith}
+use Rattle.std.proofs.Common.{◌≡◌, ℕ, ◌+◌, ◌<◌, ◌≤◌, List, [], ◌∷◌, ◌++◌, length, drop, take, min, map, get_or, set}
+use Rattle.std.proofs.Common.{refl, sym, arith}
 use Rattle.std.proofs.lemmas.List.{drop_all, get_or-map, map-set}
 use Rattle.std.proofs.lemmas.Grind.{common_steps}
 use Rattle.std.proofs.Math.Seq.{drop-drop}
@@ -21,7 +22,8 @@ pub dropped_end : {X : Type 0} (xs : List X) (i : ℕ) → length xs ≤ i → d
 dropped_end xs i h = rw (drop_all i xs h) refl
 
 -- one queue of all goes on
-pub set_next : {Q X : Type 0} (f : Q → List X) (qs : List Q) (i : ℕ) (q d : Q) → i < length qs → f q ≡ drop 1 (f (get_or qs i d)) →
+pub set_next : {Q X : Type 0} (f : Q → List X) (qs : List Q) (i : ℕ) (q d : Q) → i < length qs →
+    f q ≡ drop 1 (f (get_or qs i d)) →
     map f (set qs i q) ≡ without_next (map f qs) i
 set_next f qs i q d lt e = rw (map-set f qs i q, get_or-map f qs i d [] lt, e) refl
 
@@ -34,7 +36,8 @@ pub take_least : {X : Type 0} (n : ℕ) (xs : List X) → take (min n (length xs
 take_least n xs = grind (arith, common_steps)
 
 -- the next answer without its first bytes
-pub next_cut : (count : ℕ) (xs : List RecvAnswer) → next_answer (cut_next count xs) ≡ option_map (cut count) (next_answer xs)
+pub next_cut : (count : ℕ) (xs : List RecvAnswer) →
+    next_answer (cut_next count xs) ≡ option_map (cut count) (next_answer xs)
 next_cut count [] = refl
 next_cut count (a ∷ more) = refl
 
@@ -70,7 +73,8 @@ pub set_read : {Q : Type 0} (f : Q → List RecvAnswer) (qs : List Q) (i asked :
 set_read f qs i asked q d lt e = rw (map-set f qs i q, get_or-map f qs i d [] lt, e) refl
 
 -- one list of all has one more item
-pub set_last : {Q X : Type 0} (f : Q → List X) (qs : List Q) (i : ℕ) (q d : Q) (x : X) → i < length qs → f q ≡ f (get_or qs i d) ++ x ∷ [] →
+pub set_last : {Q X : Type 0} (f : Q → List X) (qs : List Q) (i : ℕ) (q d : Q) (x : X) → i < length qs →
+    f q ≡ f (get_or qs i d) ++ x ∷ [] →
     map f (set qs i q) ≡ with_last (map f qs) i x
 set_last f qs i q d x lt e = rw (map-set f qs i q, get_or-map f qs i d [] lt, e) refl
 

@@ -1,5 +1,6 @@
 -- What is known of a script that is read.
-use Rattle.std.proofs.Common.{◌≡◌, ℕ, ◌+◌, ◌<◌, ◌≤◌, ◌^◌, true, false, List, [], ◌∷◌, length, Ok, refl, sym, ap, ◌∙◌, arith, inl, inr, nat_lt}
+use Rattle.std.proofs.Common.{◌≡◌, ℕ, ◌+◌, ◌<◌, ◌≤◌, ◌^◌, true, false, List, [], ◌∷◌, length, Ok, refl, sym, ap, ◌∙◌}
+use Rattle.std.proofs.Common.{arith, inl, inr, nat_lt}
 use Rattle.std.specs.Prelude.{is_ok, ◌==◌}
 use Rattle.std.proofs.lemmas.Bool.{true≢false}
 use Rattle.std.proofs.lemmas.Grind.{common_steps}
@@ -23,11 +24,13 @@ bytes_few : (text : List ℕ) (s : Script) → script text ≡ Ok s → length t
 unfolding script
 bytes_few text s is =
     elim (nat_lt 16777216 (length text)) as (λ b. nat_lt 16777216 (length text) ≡ b → length text ≤ 16777216) [
-      | true ↦ λ long. let wrong : is_ok (script text) ≡ false = rw long refl in absurd (true≢false (sym (ap is_ok is) ∙ wrong))
+      | true ↦ λ long. let wrong : is_ok (script text) ≡ false =
+          rw long refl in absurd (true≢false (sym (ap is_ok is) ∙ wrong))
       | false ↦ λ short. grind (arith, short)
     ] refl
 
-pub sessions_few : (text : List ℕ) (s : Script) → script text ≡ Ok s → Say (lines_in text) (lines_of s) → length s.sessions < 2 ^ 32
+pub sessions_few : (text : List ℕ) (s : Script) → script text ≡ Ok s → Say (lines_in text) (lines_of s) →
+    length s.sessions < 2 ^ 32
 sessions_few text s is say =
     let sessions : length s.sessions ≤ length (lines_of s) = grind (arith, common_steps) in
     omega (arith, sessions, said_few (lines_in text) (lines_of s) say, lines_few text, bytes_few text s is)

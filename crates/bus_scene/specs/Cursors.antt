@@ -1,5 +1,6 @@
 -- What a scene's cursors stand for.
-use Rattle.std.specs.Prelude.{◌≡◌, ℕ, ◌<◌, Bool, List, [], ◌∷◌, Option, Some, None, Result, Ok, Err, Vec, length, drop, map, slice_index_or}
+use Rattle.std.specs.Prelude.{◌≡◌, ℕ, ◌<◌, Bool, List, [], ◌∷◌, Option, Some, None, Result, Ok, Err, Vec, length, drop}
+use Rattle.std.specs.Prelude.{map, slice_index_or}
 use Rattle.react_core.specs.declared.outside.RecvAnswer.{RecvAnswer}
 use Rattle.react_core.specs.declared.outside.RecvAnswer.TheVariants as recv_answer
 use Rattle.react_core.specs.declared.outside.Event.{Event}
@@ -11,6 +12,7 @@ use Rattle.react_core.specs.declared.outside.Sent.{Sent}
 use Rattle.react_core.specs.declared.outside.Sent.TheVariants as sent
 use Rattle.react_core.specs.declared.outside.Fault.{Fault}
 use Rattle.react_core.specs.declared.outside.Fault.TheVariants as fault
+use Rattle.react_core.specs.declared.outside.Peer.{Peer}
 use Rattle.react_core.specs.declared.outside.Report.{Report}
 use Rattle.bus_script.specs.declared.line.Ready.{Ready}
 use Rattle.bus_script.specs.declared.line.ReadySource.{ReadySource}
@@ -105,8 +107,8 @@ queues_in q = record {
   waits = q.waits.items;
 }
 
--- The queues that are left are what is left of the script's after the record; the last reading and the sources' keys are
--- those that the record tells.
+-- The queues that are left are what is left of the script's after the record; the last reading and the sources' keys
+-- are those that the record tells.
 pub record Plays (rooms : Rooms) (a : Answers) (told : List Event) (keys : List (Option ℕ)) (last : ℕ) : Type 0 where
   pub played : played rooms (script_of a) told ≡ Some (rest_of a)
   pub reading : last ≡ last_reading told
@@ -127,10 +129,18 @@ abbrev pub passes_in : Option DialAnswer → Option Bool
 passes_in (Some (dial_answer.Opened passes)) = Some passes
 passes_in a = None
 
--- the answer that opens a connection, or is a fault
-abbrev pub dialled : Option Bool → DialAnswer
-dialled (Some passes) = dial_answer.Opened passes
-dialled None = dial_answer.Failed
+-- the peers that an answer has, the nonce, and what a program printed with whether it ended in success
+abbrev pub peers_in : Option DialAnswer → Option (List Peer)
+peers_in (Some (dial_answer.Found peers)) = Some peers
+peers_in a = None
+
+abbrev pub nonce_in : Option DialAnswer → Option (List ℕ)
+nonce_in (Some (dial_answer.Nonce bytes)) = Some bytes
+nonce_in a = None
+
+abbrev pub output_in : Option DialAnswer → Option (Bool × List ℕ)
+output_in (Some (dial_answer.Output success text)) = Some (success, text)
+output_in a = None
 
 -- the key that a report names
 abbrev pub key_in : List (Option ℕ) → ReadySource → Option ℕ

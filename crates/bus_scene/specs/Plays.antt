@@ -1,5 +1,7 @@
 -- What a scene answers from its queues, and which records follow a script.
-use Rattle.std.specs.Prelude.{◌≡◌, ◌<◌, ◌-◌, ◌^◌, ℕ, ◌==◌, nat_lt, Bool, true, false, not, ◌&&◌, if◌then◌else◌, List, [], ◌∷◌, ◌++◌, Option, Some, None, Result, Ok, Err, is_some, length, take, drop, min, max, fold, count_by, slice_set}
+use Rattle.std.specs.Prelude.{◌≡◌, ◌<◌, ◌-◌, ◌^◌, ℕ, ◌==◌, nat_lt, Bool, true, false, not, ◌&&◌, if◌then◌else◌, List}
+use Rattle.std.specs.Prelude.{[], ◌∷◌, ◌++◌, Option, Some, None, Result, Ok, Err, is_some, length, take, drop, min}
+use Rattle.std.specs.Prelude.{max, fold, count_by, slice_set}
 use Rattle.std.specs.List.{filter_map, list_all, starts_with}
 use Rattle.std.specs.Str.{bytes_eq}
 use Rattle.std.proofs.Common.{arith}
@@ -63,24 +65,30 @@ dial_given asked (Some a) = if fits asked a then a else dial_answer.Failed
 -- the answer to a read: at most as many bytes as were asked for, and none yet where the queue is empty
 abbrev pub recv_given : ℕ → Option RecvAnswer → RecvAnswer
 recv_given asked None = recv_answer.NotReady
-recv_given asked (Some (recv_answer.Got bytes)) = if length bytes == 0 then recv_answer.NotReady else recv_answer.Got (take asked bytes)
+recv_given asked (Some (recv_answer.Got bytes)) =
+    if length bytes == 0 then recv_answer.NotReady else recv_answer.Got (take asked bytes)
 recv_given asked (Some a) = a
 
 -- what is left of a queue after a read: bytes that were not asked for are the next answer
 abbrev pub recv_left : ℕ → Option RecvAnswer → List RecvAnswer → List RecvAnswer
-recv_left asked (Some (recv_answer.Got bytes)) more = if nat_lt asked (length bytes) then recv_answer.Got (drop asked bytes) ∷ more else more
+recv_left asked (Some (recv_answer.Got bytes)) more =
+    if nat_lt asked (length bytes) then recv_answer.Got (drop asked bytes) ∷ more else more
 recv_left asked a more = more
 
 -- the queues after a session's read
 abbrev pub after_recv : ℕ → List (List RecvAnswer) → ℕ → List (List RecvAnswer)
-after_recv asked queues session = slice_set queues session (recv_left asked (next_answer (queue_at queues session)) (drop 1 (queue_at queues session)))
+after_recv asked queues session =
+    slice_set queues session
+    (recv_left asked (next_answer (queue_at queues session)) (drop 1 (queue_at queues session)))
 
 -- Sends.
 
--- the answer to a send: at most the piece, and a fault where a piece with bytes is taken none of; all where the queue is empty
+-- the answer to a send: at most the piece, and a fault where a piece with bytes is taken none of; all where the queue
+-- is empty
 abbrev pub send_given : ℕ → Option SendAnswer → SendAnswer
 send_given offered None = send_answer.Took offered
-send_given offered (Some (send_answer.Took n)) = if n == 0 && not (offered == 0) then send_answer.Failed else send_answer.Took (min n offered)
+send_given offered (Some (send_answer.Took n)) =
+    if n == 0 && not (offered == 0) then send_answer.Failed else send_answer.Took (min n offered)
 send_given offered (Some a) = a
 
 -- The clock.
@@ -150,7 +158,8 @@ abbrev pub dial_eq : DialAnswer → DialAnswer → Bool
 dial_eq (dial_answer.Opened passes) (dial_answer.Opened passes') = bool_eq passes passes'
 dial_eq (dial_answer.Found ps) (dial_answer.Found ps') = peers_eq ps ps'
 dial_eq (dial_answer.Nonce bytes) (dial_answer.Nonce bytes') = bytes_eq bytes bytes'
-dial_eq (dial_answer.Output success text) (dial_answer.Output success' text') = bool_eq success success' && bytes_eq text text'
+dial_eq (dial_answer.Output success text) (dial_answer.Output success' text') =
+    bool_eq success success' && bytes_eq text text'
 dial_eq dial_answer.Failed dial_answer.Failed = true
 dial_eq a a' = false
 
@@ -170,7 +179,8 @@ send_eq a a' = false
 abbrev pub report_eq : Report → Report → Bool
 report_eq r r' = r.key == r'.key && (bool_eq r.read r'.read && bool_eq r.write r'.write)
 
--- Whether so many reports fill the room of the waits so far, where so many are named. Where rooms differed, any front does.
+-- Whether so many reports fill the room of the waits so far, where so many are named. Where rooms differed, any front
+-- does.
 abbrev pub fills : Rooms → ℕ → ℕ → Bool
 fills rooms.Unwaited count named = false
 fills (rooms.Each room) count named = count == min room named
@@ -186,7 +196,8 @@ is_filled r sessions told given answer = true
 -- Whether a wait answers what its queue says, but for the room: its reports are a front of those that the answer names.
 abbrev pub is_wait_given : ℕ → List Event → Option ScriptWait → WaitAnswer → Bool
 is_wait_given sessions told None (wait_answer.Reported reports) = length reports == 0
-is_wait_given sessions told (Some (script_wait.Reported readies)) (wait_answer.Reported reports) = starts_with report_eq (reports_of sessions told readies) reports
+is_wait_given sessions told (Some (script_wait.Reported readies)) (wait_answer.Reported reports) =
+    starts_with report_eq (reports_of sessions told readies) reports
 is_wait_given sessions told (Some script_wait.Interrupted) wait_answer.Interrupted = true
 is_wait_given sessions told (Some script_wait.Failed) wait_answer.Failed = true
 is_wait_given sessions told asked a = false
@@ -197,10 +208,12 @@ IsLent rooms.Unwaited room = ⊥
 IsLent (rooms.Each each) room = each ≡ room
 IsLent rooms.Differ room = Unit {0}
 
--- The answer to a wait that is lent so much room, exactly: of the reports that name a source, the first ones up to the room.
+-- The answer to a wait that is lent so much room, exactly: of the reports that name a source, the first ones up to the
+-- room.
 abbrev pub wait_given : ℕ → ℕ → List Event → Option ScriptWait → WaitAnswer
 wait_given room sessions told None = wait_answer.Reported []
-wait_given room sessions told (Some (script_wait.Reported readies)) = wait_answer.Reported (take room (reports_of sessions told readies))
+wait_given room sessions told (Some (script_wait.Reported readies)) =
+    wait_answer.Reported (take room (reports_of sessions told readies))
 wait_given room sessions told (Some script_wait.Interrupted) = wait_answer.Interrupted
 wait_given room sessions told (Some script_wait.Failed) = wait_answer.Failed
 
@@ -210,23 +223,41 @@ abbrev pub only_if : {X : Type 0} → Bool → X → Option X
 only_if true x = Some x
 only_if false x = None
 
--- The queues after an event, if it has the next answer of its queue. The waits were lent these rooms; `told` is the record
--- before the event.
+-- The queues after an event, if it has the next answer of its queue. The waits were lent these rooms; `told` is the
+-- record before the event.
 abbrev pub next : Rooms → List Event → Queues → Event → Option Queues
 next r told q (event.Dial wire asked a) =
-    only_if (dial_eq (dial_given asked (next_answer (queue_at q.dials wire))) a) (record q { dials = without_next q.dials wire })
+    only_if (dial_eq (dial_given asked (next_answer (queue_at q.dials wire))) a) (record q {
+      dials = without_next q.dials wire;
+    })
 next r told q (event.Recv wire asked a) =
-    only_if (recv_eq (recv_given asked (next_answer (queue_at q.recvs wire))) a) (record q { recvs = after_recv asked q.recvs wire })
+    only_if (recv_eq (recv_given asked (next_answer (queue_at q.recvs wire))) a) (record q {
+      recvs = after_recv asked q.recvs wire;
+    })
 next r told q (event.Send wire offered a) =
-    only_if (send_eq (send_given (length offered) (next_answer (queue_at q.sends wire))) a) (record q { sends = without_next q.sends wire })
+    only_if (send_eq (send_given (length offered) (next_answer (queue_at q.sends wire))) a) (record q {
+      sends = without_next q.sends wire;
+    })
 next r told q (event.Close wire) = Some q
-next r told q (event.Now t) = only_if (reading_given (last_reading told) (next_answer q.nows) == t) (record q { nows = drop 1 q.nows })
-next r told q (event.Add wire key ok) = only_if (bool_eq (outcome_given (next_answer q.adds)) ok) (record q { adds = drop 1 q.adds })
-next r told q (event.Modify wire key read write ok) = only_if (bool_eq (outcome_given (next_answer q.modifies)) ok) (record q { modifies = drop 1 q.modifies })
-next r told q (event.Delete wire key ok) = only_if (bool_eq (outcome_given (next_answer q.deletes)) ok) (record q { deletes = drop 1 q.deletes })
-next r told q (event.Notify ok) = only_if (bool_eq (outcome_given (next_answer q.notifies)) ok) (record q { notifies = drop 1 q.notifies })
+next r told q (event.Now t) =
+    only_if (reading_given (last_reading told) (next_answer q.nows) == t)
+    (record q { nows = drop 1 q.nows })
+next r told q (event.Add wire key ok) =
+    only_if (bool_eq (outcome_given (next_answer q.adds)) ok)
+    (record q { adds = drop 1 q.adds })
+next r told q (event.Modify wire key read write ok) =
+    only_if (bool_eq (outcome_given (next_answer q.modifies)) ok)
+    (record q { modifies = drop 1 q.modifies })
+next r told q (event.Delete wire key ok) =
+    only_if (bool_eq (outcome_given (next_answer q.deletes)) ok)
+    (record q { deletes = drop 1 q.deletes })
+next r told q (event.Notify ok) =
+    only_if (bool_eq (outcome_given (next_answer q.notifies)) ok)
+    (record q { notifies = drop 1 q.notifies })
 next r told q (event.Wait timeout a) =
-    only_if (is_wait_given (length q.dials) told (next_answer q.waits) a && is_filled r (length q.dials) told (next_answer q.waits) a)
+    only_if
+    (is_wait_given (length q.dials) told (next_answer q.waits) a
+    && is_filled r (length q.dials) told (next_answer q.waits) a)
     (record q { waits = drop 1 q.waits })
 
 abbrev pub next_of : Rooms → List Event → Option Queues → Event → Option Queues
@@ -261,10 +292,11 @@ OnAnswer (Err fault.OutOfMemory) P = Unit {0}
 abbrev pub GainsWait : ℕ → Option ℕ → Play → Play → Type 0
 GainsWait room timeout before after =
     (left : Queues) × (played before.rooms before.script before.told ≡ Some left)
-    × (after.told ≡ before.told ++ event.Wait timeout (wait_given room (length left.dials) before.told (next_answer left.waits)) ∷ [])
+    × (after.told ≡ before.told
+    ++ event.Wait timeout (wait_given room (length left.dials) before.told (next_answer left.waits)) ∷ [])
 
--- A wait that is lent so much room: what the script has left is due, and the record gains the event with its next answer.
--- For want of memory nothing is told.
+-- A wait that is lent so much room: what the script has left is due, and the record gains the event with its next
+-- answer. For want of memory nothing is told.
 abbrev pub AnswersWait : {T : Type 0} → ℕ → Option ℕ → Play → Play → Result T Fault → Type 0
 AnswersWait room timeout before after (Err fault.OutOfMemory) = after.told ≡ before.told
 AnswersWait room timeout before after (Err fault.Failed) = GainsWait room timeout before after

@@ -1,5 +1,6 @@
 -- The queues of a script's answers.
-use Rattle.std.specs.Prelude.{ℕ, Bool, List, [], ◌∷◌, ◌++◌, Option, Some, None, drop, replicate, fold, slice_index_or, slice_set}
+use Rattle.std.specs.Prelude.{ℕ, Bool, List, [], ◌∷◌, ◌++◌, Option, Some, None, drop, replicate, fold, slice_index_or}
+use Rattle.std.specs.Prelude.{slice_set}
 use Rattle.react_core.specs.declared.outside.DialAnswer.{DialAnswer}
 use Rattle.react_core.specs.declared.outside.RecvAnswer.{RecvAnswer}
 use Rattle.react_core.specs.declared.outside.SendAnswer.{SendAnswer}

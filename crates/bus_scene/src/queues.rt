@@ -2,10 +2,12 @@
 //!
 //! The answers stay where they are; each queue has the place of its next one.
 
-ghost use Rattle.std.specs.Prelude.{◌≡◌, ◌++◌, ◌∷◌, [], map, drop, length, replicate, IfOk, OnOk, OnErr, List, Some, ◌+◌, ◌<◌, ◌^◌};
+ghost use Rattle.std.specs.Prelude.{◌≡◌, ◌++◌, ◌∷◌, [], map, drop, length, replicate, IfOk, OnOk, OnErr, List, Some};
+ghost use Rattle.std.specs.Prelude.{◌+◌, ◌<◌, ◌^◌};
 ghost use Rattle.std.specs.Option.{option_copied};
 ghost use Rattle.bus_scene.specs.Queues.{queue_at, next_answer, without_next, with_last, enqueue, empty_queues, queues};
-ghost use Rattle.bus_scene.specs.Cursors.{whole, left, whole_reads, left_reads, items_of, answer_in, bytes_in, script_of, rest_of};
+ghost use Rattle.bus_scene.specs.Cursors.{whole, left, whole_reads, left_reads, items_of, answer_in, bytes_in};
+ghost use Rattle.bus_scene.specs.Cursors.{script_of, rest_of};
 ghost use Rattle.bus_scene.specs.Plays.{recv_given, recv_left, after_recv};
 ghost use Rattle.react_core.specs.declared.outside.RecvAnswer.TheVariants as recv_answer;
 
@@ -126,7 +128,8 @@ impl Reads {
     #[tactic(auto, using(crate::proofs::QueueLemmas::bytes_stay, crate::proofs::QueueLemmas::answer_goes))]
     fn take(&mut self, asked: usize)
         ensures whole { whole_reads self.new ≡ whole_reads self.old }
-        ensures left { left_reads self.new ≡ recv_left asked (next_answer (left_reads self.old)) (drop 1 (left_reads self.old)) }
+        ensures left { left_reads self.new ≡ recv_left asked (next_answer (left_reads self.old))
+            (drop 1 (left_reads self.old)) }
     {
         if asked < self.remaining() {
             self.used += asked;

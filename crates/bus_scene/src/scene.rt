@@ -1,32 +1,39 @@
 //! An outside in memory, which answers from a script and tells each call.
 //!
-//! Each call first takes the memory for its event. So a call that answers want of memory has used no answer and told nothing.
+//! Each call first takes the memory for its event. So a call that answers want of memory has used no answer and told
+//! nothing.
 
-ghost use Rattle.std.specs.Prelude.{◌≡◌, ◌++◌, ◌∷◌, [], ◌<◌, ◌≤◌, ◌+◌, List, Option, Some, None, true, false, length, map, replicate, take, vec_len, vec_capacity, slice_set, IfOk, OnOk};
+ghost use Rattle.std.specs.Prelude.{◌≡◌, ◌++◌, ◌∷◌, [], ◌<◌, ◌≤◌, ◌+◌, List, Option, Some, None, true, false, length};
+ghost use Rattle.std.specs.Prelude.{map, replicate, take, vec_len, vec_capacity, slice_set, IfOk, OnOk};
 ghost use Rattle.std.specs.Option.{option_copied, option_to_list};
 ghost use Rattle.std.specs.List.{filter_map};
 ghost use Rattle.react_core.specs.Outer.{Keeps, with_room, lent};
 ghost use Rattle.react_core.specs.declared.outside.Rooms.TheVariants as rooms;
 ghost use Rattle.react_core.specs.Outer as part;
-ghost use Rattle.react_core.specs.Told.{told as with_told, send_told, recv_told, wait_told, IsSent, IsReceived, IsWaited, Counted, OnLack};
+ghost use Rattle.react_core.specs.Told.{told as with_told, dial_told, send_told, recv_told, wait_told, IsSent};
+ghost use Rattle.react_core.specs.Told.{IsReceived, IsWaited, Counted, OnLack};
 ghost use Rattle.react_core.specs.declared.outside.Event.{Event};
 ghost use Rattle.react_core.specs.declared.outside.Event.TheVariants as event;
-ghost use Rattle.react_core.specs.declared.outside.Question.TheVariants as question;
 ghost use Rattle.bus_scene.specs.Queues.{queue_at, next_answer};
-ghost use Rattle.bus_scene.specs.Plays.{Follows, last_reading, reading_given, outcome_given, send_given, recv_given, is_wait_given, is_filled, IsLent, wait_given, asks_for_wire, outer_of, OnAnswer, AnswersWait};
-ghost use Rattle.bus_scene.specs.Cursors.{left, left_reads, script_of, IsPlaying, sent_of, passes_in, dialled, key_in, report_in};
+ghost use Rattle.bus_scene.specs.Plays.{Follows, last_reading, reading_given, outcome_given, send_given, recv_given};
+ghost use Rattle.bus_scene.specs.Plays.{is_wait_given, is_filled, IsLent, wait_given, asks_for_wire, outer_of};
+ghost use Rattle.bus_scene.specs.Plays.{OnAnswer, AnswersWait};
+ghost use Rattle.bus_scene.specs.Cursors.{left, left_reads, script_of, IsPlaying, sent_of, key_in, report_in};
 
+use self::dialling::{copy_of_args, copy_of_some, dial, lookup, read_nonce, run_ibus};
 use crate::queues::{
     Answers, GivenRead, Queue, QueuedAnswers, advance_at, given_at, next_at, push, take_at,
 };
 use bus_script::{Ready, ReadySource, ScriptWait};
 use react_core::outside::{
-    Bytes, Clock, DialAnswer, Dialer, Event, Fault, Notifier, Opened, OutOfMemory, Outside, Poller,
-    Question, Received, RecvAnswer, Registrar, Report, Reports, Rooms, SendAnswer, Sent, Tells,
-    WaitAnswer, Waited, Waiter, Wire,
+    Args, Bytes, Clock, Dialer, Event, Fault, Notifier, Opened, OutOfMemory, Output, Outside, Peer,
+    Peers, Poller, Question, Received, RecvAnswer, Registrar, Report, Reports, Rooms, SendAnswer,
+    Sent, Tells, WaitAnswer, Waited, Waiter, Wire,
 };
 use std::alloc::Global;
 use std::marker::Model;
+
+mod dialling;
 
 /// A script while it is played.
 #[derive(Debug, Drop)]
@@ -55,7 +62,11 @@ impl Model for Scene {
 
     ghost use Rattle.bus_scene.specs.Cursors.{script_of, IsPlaying};
 
-    ghost view = { λ s. record { script = script_of s.player.answers; rooms = s.player.rooms; told = s.player.told.items } };
+    ghost view = { λ s. record {
+      script = script_of s.player.answers;
+      rooms = s.player.rooms;
+      told = s.player.told.items;
+    } };
 
     ghost invariant = { λ s. IsPlaying s.player };
 }
@@ -247,48 +258,6 @@ fn close(player: &mut Player, wire: u32)
     tell(&mut player.told, Event::Close { wire });
 }
 
-/// Whether the connection passes descriptors that an answer opens, where it opens one.
-fn passes_in(answer: Option<&DialAnswer>) -> Option<bool>
-    ensures { result ≡ passes_in (option_copied answer.entry) }
-{
-    match answer {
-        Some(DialAnswer::Opened { passes }) => Some(*passes),
-        _ => None,
-    }
-}
-
-fn dialled(passes: Option<bool>) -> DialAnswer
-    ensures { result ≡ dialled passes }
-{
-    match passes {
-        Some(passes) => DialAnswer::Opened { passes },
-        None => DialAnswer::Failed,
-    }
-}
-
-/// Answers a question for a connection: whether it passes descriptors, where one opened.
-fn dial(player: &mut Player, wire: u32, question: Question) -> Option<bool>
-    requires asks { asks_for_wire question ≡ true }
-    requires playing { IsPlaying player.old }
-    requires room { vec_len player.old.told < vec_capacity player.old.told }
-    ensures playing { IsPlaying player.new }
-    ensures script { script_of player.new.answers ≡ script_of player.old.answers }
-    ensures rooms { player.new.rooms ≡ player.old.rooms }
-    ensures told { player.new.told.items ≡ player.old.told.items ++ event.Dial wire question (dialled result) ∷ [] }
-{
-    let passes = passes_in(next_at(&player.answers.dials, wire));
-    advance_at(&mut player.answers.dials, wire);
-    tell(
-        &mut player.told,
-        Event::Dial {
-            wire,
-            question,
-            answer: dialled(passes),
-        },
-    );
-    passes
-}
-
 /// The answer to a send of so many bytes.
 fn send_given(next: Option<&SendAnswer>, offered: usize) -> SendAnswer
     ensures { result ≡ send_given offered (option_copied next.entry) }
@@ -357,7 +326,8 @@ fn fill_front<T: Copy>(into: &mut [T], items: &[T])
 fn tell_read(player: &mut Player, wire: u32, asked: usize, answer: RecvAnswer)
     requires playing { IsPlaying player.old }
     requires room { vec_len player.old.told < vec_capacity player.old.told }
-    requires given { recv_given asked (next_answer (queue_at (map left_reads player.old.answers.recvs.items) wire)) ≡ answer }
+    requires given { recv_given asked (next_answer (queue_at (map left_reads player.old.answers.recvs.items) wire))
+        ≡ answer }
     ensures playing { IsPlaying player.new }
     ensures script { script_of player.new.answers ≡ script_of player.old.answers }
     ensures rooms { player.new.rooms ≡ player.old.rooms }
@@ -470,8 +440,10 @@ fn reports_in(
 fn tell_wait(player: &mut Player, timeout: Option<u64>, answer: WaitAnswer)
     requires playing { IsPlaying player.old }
     requires room { vec_len player.old.told < vec_capacity player.old.told }
-    requires given { is_wait_given (length player.old.keys.items) player.old.told.items (next_answer (left player.old.answers.waits)) answer ≡ true }
-    requires filled { is_filled player.old.rooms (length player.old.keys.items) player.old.told.items (next_answer (left player.old.answers.waits)) answer ≡ true }
+    requires given { is_wait_given (length player.old.keys.items) player.old.told.items
+        (next_answer (left player.old.answers.waits)) answer ≡ true }
+    requires filled { is_filled player.old.rooms (length player.old.keys.items) player.old.told.items
+        (next_answer (left player.old.answers.waits)) answer ≡ true }
     ensures playing { IsPlaying player.new }
     ensures script { script_of player.new.answers ≡ script_of player.old.answers }
     ensures rooms { player.new.rooms ≡ player.old.rooms }
@@ -493,7 +465,7 @@ fn lend(player: &mut Player, room: usize)
 }
 
 /// Waits for reports, which it puts at the front of a slice.
-#[tactic(auto, using(crate::proofs::WaitLemmas::reports_given, crate::proofs::WaitLemmas::reports_exact, crate::proofs::WaitLemmas::filled_none, crate::proofs::WaitLemmas::filled_interrupted, crate::proofs::WaitLemmas::filled_failed, crate::proofs::WaitLemmas::filled_given))]
+#[tactic(auto, using(crate::proofs::WaitLemmas::waits))]
 fn wait(
     player: &mut Player,
     alloc: Global,
@@ -507,7 +479,9 @@ fn wait(
     ensures script { script_of player.new.answers ≡ script_of player.old.answers }
     ensures rooms { player.new.rooms ≡ player.old.rooms }
     ensures told { player.new.told.items ≡ player.old.told.items ++ wait_told timeout reports.new result }
-    ensures exact { OnAnswer result (player.new.told.items ≡ player.old.told.items ++ event.Wait timeout (wait_given (length reports.old) (length player.old.keys.items) player.old.told.items (next_answer (left player.old.answers.waits))) ∷ []) }
+    ensures exact { OnAnswer result (player.new.told.items ≡ player.old.told.items
+        ++ event.Wait timeout (wait_given (length reports.old) (length player.old.keys.items) player.old.told.items
+        (next_answer (left player.old.answers.waits))) ∷ []) }
     ensures amount { IfOk result (IsWaited (length reports.old)) }
     ensures room { length reports.new ≡ length reports.old }
 {
@@ -597,11 +571,12 @@ impl Notifier for Scene {
 }
 
 impl Waiter for Scene {
-    /// Gives what the script's next answer to a wait has: of the reports that name a source, the first ones up to the room
-    /// that was lent.
+    /// Gives what the script's next answer to a wait has: of the reports that name a source, the first ones up to the
+    /// room that was lent.
     fn wait(&mut self, timeout: Option<u64>, reports: &mut [Report]) -> Result<Waited, Fault>
         ensures exact { AnswersWait (length reports.old) timeout self.old self.new result }
-        ensures told { (outer_of self.new).events ≡ with_told (outer_of self.old).events (wait_told timeout reports.new result) }
+        ensures told { (outer_of self.new).events ≡ with_told (outer_of self.old).events
+            (wait_told timeout reports.new result) }
         ensures amount { IfOk result (IsWaited (length reports.old)) }
         ensures room { length reports.new ≡ length reports.old }
         ensures cause { Counted result (outer_of self.old).poller_faults (outer_of self.new).poller_faults }
@@ -617,22 +592,75 @@ impl Waiter for Scene {
 
 impl Poller for Scene {}
 
+impl Scene {
+    /// Answers a question for a connection.
+    fn dial(&mut self, wire: u32, question: Question) -> Result<Opened, Fault>
+        requires asks { asks_for_wire question ≡ true }
+        ensures told { (outer_of self.new).events
+            ≡ with_told (outer_of self.old).events (dial_told wire question result) }
+        ensures cause { Counted result ((outer_of self.old).dial_faults wire) ((outer_of self.new).dial_faults wire) }
+        ensures memory { OnLack result ((outer_of self.old).ample ≡ false) }
+        ensures keeps { Keeps (part.Dial wire) (outer_of self.old) (outer_of self.new) }
+    {
+        reserve(&mut self.player.told)?;
+        dial(&mut self.player, wire, question)
+    }
+}
+
 impl Dialer for Scene {
     fn dial_unix(&mut self, wire: u32, path: &str) -> Result<Opened, Fault> {
         let path = copy_of(self.alloc, path.as_bytes())?;
+        self.dial(wire, Question::Unix(path))
+    }
+
+    fn dial_abstract(&mut self, wire: u32, name: &[u8]) -> Result<Opened, Fault> {
+        let name = copy_of(self.alloc, name)?;
+        self.dial(wire, Question::Abstract(name))
+    }
+
+    fn lookup(&mut self, alloc: Global, wire: u32, host: &str, port: u16) -> Result<Peers, Fault> {
+        let host = copy_of(alloc, host.as_bytes())?;
         reserve(&mut self.player.told)?;
-        match dial(&mut self.player, wire, Question::Unix(path)) {
-            Some(passes) => Ok(Opened { passes }),
-            None => Err(Fault::Failed),
-        }
+        lookup(&mut self.player, alloc, wire, host, port)
+    }
+
+    fn dial_tcp(&mut self, wire: u32, peer: Peer) -> Result<Opened, Fault> {
+        self.dial(wire, Question::Tcp(peer))
+    }
+
+    fn read_nonce(&mut self, alloc: Global, wire: u32, path: &str) -> Result<Bytes, Fault> {
+        let path = copy_of(alloc, path.as_bytes())?;
+        reserve(&mut self.player.told)?;
+        read_nonce(&mut self.player, alloc, wire, path)
+    }
+
+    fn start(
+        &mut self,
+        wire: u32,
+        program: &str,
+        arg0: Option<&str>,
+        args: &Args,
+    ) -> Result<Opened, Fault> {
+        let program = copy_of(self.alloc, program.as_bytes())?;
+        let arg0 = copy_of_some(self.alloc, arg0)?;
+        let args = copy_of_args(self.alloc, args.as_slice())?;
+        self.dial(
+            wire,
+            Question::Start {
+                program,
+                arg0,
+                args,
+            },
+        )
+    }
+
+    fn run_ibus(&mut self, alloc: Global, wire: u32) -> Result<Output, Fault> {
+        reserve(&mut self.player.told)?;
+        run_ibus(&mut self.player, alloc, wire)
     }
 
     fn accept(&mut self, wire: u32) -> Result<Opened, Fault> {
-        reserve(&mut self.player.told)?;
-        match dial(&mut self.player, wire, Question::Accept) {
-            Some(passes) => Ok(Opened { passes }),
-            None => Err(Fault::Failed),
-        }
+        self.dial(wire, Question::Accept)
     }
 }
 

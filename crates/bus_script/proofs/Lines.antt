@@ -18,27 +18,35 @@ other b h = grind arith
 
 unsplit : (bs : List ℕ) → ((i : ℕ) → i < length bs → get_or bs i 0 ≢ 10) → slice_split (λ b. eqb b 10) bs ≡ bs ∷ []
 unsplit [] h = refl
-unsplit (b ∷ bs) h = slice_split-cons_no (λ x. eqb x 10) b bs (other b (h 0 (omega arith))) ∙ ap (λ v. onto_first b v) (unsplit bs (λ i l. h (suc i) (omega arith)))
+unsplit (b ∷ bs) h = slice_split-cons_no (λ x. eqb x 10) b bs (other b (h 0 (omega arith))) ∙ ap (λ v. onto_first b v)
+    (unsplit bs (λ i l. h (suc i) (omega arith)))
 
-split_here : (xs ys : List ℕ) → ((i : ℕ) → i < length xs → get_or xs i 0 ≢ 10) → slice_split (λ b. eqb b 10) (xs ++ 10 ∷ ys) ≡ xs ∷ slice_split (λ b. eqb b 10) ys
+split_here : (xs ys : List ℕ) → ((i : ℕ) → i < length xs → get_or xs i 0 ≢ 10) →
+    slice_split (λ b. eqb b 10) (xs ++ 10 ∷ ys) ≡ xs ∷ slice_split (λ b. eqb b 10) ys
 split_here [] ys h = slice_split-cons_yes (λ x. eqb x 10) 10 ys refl
-split_here (x ∷ xs) ys h = slice_split-cons_no (λ b. eqb b 10) x (xs ++ 10 ∷ ys) (other x (h 0 (omega arith))) ∙ ap (λ v. onto_first x v) (split_here xs ys (λ i l. h (suc i) (omega arith)))
+split_here (x ∷ xs) ys h = slice_split-cons_no (λ b. eqb b 10) x (xs ++ 10 ∷ ys) (other x (h 0 (omega arith)))
+    ∙ ap (λ v. onto_first x v) (split_here xs ys (λ i l. h (suc i) (omega arith)))
 
 pub cut_line : (bs : List ℕ) (r : Option (Bor (List ℕ) × Bor (List ℕ))) → IsSplitOnceResult 10 bs r → CutsLine bs r
 cut_line bs None h = unsplit bs (split_parts 10 bs None h (lit< tt))
 cut_line bs (Some x) h =
-    let parts = split_parts 10 bs (Some x) h (lit< tt) in
-    (rw parts.0 (split_here x.0.now x.1.now parts.1), omega (arith, ap length parts.0, length-append x.0.now (10 ∷ x.1.now)))
+    let parts = split_parts 10 bs (Some x) h (lit< tt) in (
+      rw parts.0 (split_here x.0.now x.1.now parts.1),
+      omega (arith, ap length parts.0, length-append x.0.now (10 ∷ x.1.now)),
+    )
 
-pub step_ok : (n : ℕ) (s s' : Script) (line : List ℕ) (more all : List (List ℕ)) → all ≡ line ∷ more → at_line n (read_line s line) ≡ Ok s' → read_lines n s all ≡ read_lines (n + 1) s' more
+pub step_ok : (n : ℕ) (s s' : Script) (line : List ℕ) (more all : List (List ℕ)) → all ≡ line ∷ more →
+    at_line n (read_line s line) ≡ Ok s' → read_lines n s all ≡ read_lines (n + 1) s' more
 unfolding read_lines
 step_ok n s s' line more all cut step = rw (cut, step) refl
 
-pub last_ok : (n : ℕ) (s s' : Script) (line : List ℕ) (all : List (List ℕ)) → all ≡ line ∷ [] → at_line n (read_line s line) ≡ Ok s' → read_lines n s all ≡ Ok s'
+pub last_ok : (n : ℕ) (s s' : Script) (line : List ℕ) (all : List (List ℕ)) → all ≡ line ∷ [] →
+    at_line n (read_line s line) ≡ Ok s' → read_lines n s all ≡ Ok s'
 unfolding read_lines
 last_ok n s s' line all cut step = rw (cut, step) refl
 
-pub step_err : (n : ℕ) (s : Script) (line : List ℕ) (more all : List (List ℕ)) (e : ScriptError) → all ≡ line ∷ more → FailsAt e (at_line n (read_line s line)) → FailsAt e (read_lines n s all)
+pub step_err : (n : ℕ) (s : Script) (line : List ℕ) (more all : List (List ℕ)) (e : ScriptError) → all ≡ line ∷ more →
+    FailsAt e (at_line n (read_line s line)) → FailsAt e (read_lines n s all)
 unfolding read_lines
 step_err n s line more all errors.OutOfMemory cut step = tt
 step_err n s line more all (errors.Refused k reason) cut step = rw (cut, step) refl
@@ -46,7 +54,10 @@ step_err n s line more all (errors.Refused k reason) cut step = rw (cut, step) r
 pub fails_as : (e : ScriptError) (a b : Result Script Refused) → a ≡ b → FailsAt e a → FailsAt e b
 fails_as e a b h f = subst (λ (v : Result Script Refused). FailsAt e v) h f
 
-pub script_long : (text : List ℕ) → 16777216 < length text → script text ≡ Err (record { line = 0; reason = reasons.Length })
+pub script_long : (text : List ℕ) → 16777216 < length text → script text ≡ Err (record {
+  line = 0;
+  reason = reasons.Length;
+})
 unfolding script
 script_long text long = let test : nat_lt 16777216 (length text) ≡ true = grind arith in rw test refl
 
@@ -57,17 +68,23 @@ not_text : (text : List ℕ) (b : Bool) → is_utf8 text ≡ b → ¬ (IsUtf8 te
 not_text text true e h = absurd (h (IsUtf8-from_is_utf8 text e))
 not_text text false e h = refl
 
-pub script_bad : (text : List ℕ) → length text ≤ 16777216 → ¬ (IsUtf8 text) → script text ≡ Err (record { line = 0; reason = reasons.Text })
+pub script_bad : (text : List ℕ) → length text ≤ 16777216 → ¬ (IsUtf8 text) → script text ≡ Err (record {
+  line = 0;
+  reason = reasons.Text;
+})
 unfolding script
 script_bad text fits bad = rw (short text fits, not_text text (is_utf8 text) refl bad) refl
 
-script_text : (text : List ℕ) → length text ≤ 16777216 → IsUtf8 text → script text ≡ (read_lines 1 empty (lines_in text) >>= whole)
+script_text : (text : List ℕ) → length text ≤ 16777216 → IsUtf8 text →
+    script text ≡ (read_lines 1 empty (lines_in text) >>= whole)
 unfolding script
 script_text text fits good = rw (short text fits, is_utf8-from_IsUtf8 text good) refl
 
-pub script_ok : (text : List ℕ) (s : Script) → length text ≤ 16777216 → IsUtf8 text → read_lines 1 empty (lines_in text) ≡ Ok s → script text ≡ whole s
+pub script_ok : (text : List ℕ) (s : Script) → length text ≤ 16777216 → IsUtf8 text →
+    read_lines 1 empty (lines_in text) ≡ Ok s → script text ≡ whole s
 script_ok text s fits good read = script_text text fits good ∙ rw read refl
 
-pub script_err : (text : List ℕ) (e : ScriptError) → length text ≤ 16777216 → IsUtf8 text → FailsAt e (read_lines 1 empty (lines_in text)) → FailsAt e (script text)
+pub script_err : (text : List ℕ) (e : ScriptError) → length text ≤ 16777216 → IsUtf8 text →
+    FailsAt e (read_lines 1 empty (lines_in text)) → FailsAt e (script text)
 script_err text errors.OutOfMemory fits good read = tt
 script_err text (errors.Refused k reason) fits good read = script_text text fits good ∙ rw read refl

@@ -24,11 +24,13 @@ pub guard_ok : {A E : Type 0} (b : Bool) (e : E) (x y : A) → cond b (Err e) (O
 guard_ok true e x y h = absurd (cc)
 guard_ok false e x y h = (refl, cc)
 
-pub guard_more : {A E : Type 0} (b : Bool) (e : E) (r : Result A E) (y : A) → cond b (Err e) r ≡ Ok y → (b ≡ false) × (r ≡ Ok y)
+pub guard_more : {A E : Type 0} (b : Bool) (e : E) (r : Result A E) (y : A) → cond b (Err e) r ≡ Ok y →
+    (b ≡ false) × (r ≡ Ok y)
 guard_more true e r y h = absurd (cc)
 guard_more false e r y h = (refl, h)
 
-pub bind_ok : {A B E : Type 0} (r : Result A E) (f : A → Result B E) (y : B) → (r >>= f) ≡ Ok y → (x : A) × (r ≡ Ok x) × (f x ≡ Ok y)
+pub bind_ok : {A B E : Type 0} (r : Result A E) (f : A → Result B E) (y : B) → (r >>= f) ≡ Ok y →
+    (x : A) × (r ≡ Ok x) × (f x ≡ Ok y)
 bind_ok (Ok x) f y h = (x, refl, h)
 bind_ok (Err e) f y h = absurd (cc)
 
@@ -51,16 +53,22 @@ empty_if (x ∷ xs) h = let short : length (x ∷ xs) ≤ 0 = ltb-false 0 (lengt
 never : {A : Type 0} (o : Option A) (P : Type 0) → is_none o ≡ false → is_none o ≡ true → P
 never o P h k = absurd (cc)
 
-add_shape : (s s' : Script) (line : Line) → Reached s → add s line ≡ Ok s' → Reached s' × (lines_of s' ≡ lines_of s ++ line ∷ [])
+add_shape : (s s' : Script) (line : Line) → Reached s → add s line ≡ Ok s' →
+    Reached s' × (lines_of s' ≡ lines_of s ++ line ∷ [])
 unfolding add
 add_shape s s' (lines.Rounds n) reached h =
     let p = guard_ok (is_some s.rounds) Order (record s { rounds = Some n }) s' h in
     let none : s.rounds ≡ None = not_some s.rounds p.0 in
     let before = reached (rw none refl) in
     let P : Script → Type 0 = λ v. Reached v × (lines_of v ≡ lines_of s ++ lines.Rounds n ∷ []) in
-    subst P p.1 (never (Some n) ((s.start ≡ None) × (s.sessions ≡ []) × (s.answers ≡ [])) refl, rw (none, before.0, before.1, before.2) refl)
+    subst P p.1 (
+      never (Some n) ((s.start ≡ None) × (s.sessions ≡ []) × (s.answers ≡ [])) refl,
+      rw (none, before.0, before.1, before.2) refl,
+    )
 add_shape s s' (lines.Start tick timer) reached h =
-    let p = guard_ok (is_none s.rounds || has_more s) Order (record s { start = Some (record { tick = tick; timer = timer }) }) s' h in
+    let p = guard_ok (is_none s.rounds || has_more s) Order (record s {
+      start = Some (record { tick = tick; timer = timer });
+    }) s' h in
     let parts = or_false (is_none s.rounds) (has_more s) p.0 in
     let more = or_false (is_some s.start || nat_lt 0 (length s.sessions)) (nat_lt 0 (length s.answers)) parts.1 in
     let first = or_false (is_some s.start) (nat_lt 0 (length s.sessions)) more.0 in
@@ -68,31 +76,55 @@ add_shape s s' (lines.Start tick timer) reached h =
     let no_session : s.sessions ≡ [] = empty_if s.sessions first.1 in
     let no_answer : s.answers ≡ [] = empty_if s.answers more.1 in
     let P : Script → Type 0 = λ v. Reached v × (lines_of v ≡ lines_of s ++ lines.Start tick timer ∷ []) in
-    subst P p.1 (never s.rounds ((Some (record { tick = tick; timer = timer }) ≡ None) × (s.sessions ≡ []) × (s.answers ≡ [])) parts.0, rw (no_start, no_session, no_answer) (simp (append-nil)))
+    subst P p.1 (
+      never s.rounds ((Some (record { tick = tick; timer = timer }) ≡ None) × (s.sessions ≡ [])
+          × (s.answers ≡ [])) parts.0,
+      rw (no_start, no_session, no_answer) (simp (append-nil)),
+    )
 add_shape s s' (lines.Session l) reached h =
-    let p = guard_ok (is_none s.rounds || nat_lt 0 (length s.answers)) Order (record s { sessions = s.sessions ++ l ∷ [] }) s' h in
+    let p = guard_ok (is_none s.rounds || nat_lt 0 (length s.answers)) Order (record s {
+      sessions = s.sessions ++ l ∷ [];
+    }) s' h in
     let parts = or_false (is_none s.rounds) (nat_lt 0 (length s.answers)) p.0 in
     let none : s.answers ≡ [] = empty_if s.answers parts.1 in
     let P : Script → Type 0 = λ v. Reached v × (lines_of v ≡ lines_of s ++ lines.Session l ∷ []) in
-    subst P p.1 (never s.rounds ((s.start ≡ None) × (s.sessions ++ l ∷ [] ≡ []) × (s.answers ≡ [])) parts.0, rw none (simp (map-append, append-nil, append_assoc)))
+    subst P p.1 (
+      never s.rounds ((s.start ≡ None) × (s.sessions ++ l ∷ [] ≡ []) × (s.answers ≡ [])) parts.0,
+      rw none (simp (map-append, append-nil, append_assoc)),
+    )
 add_shape s s' (lines.Answer a) reached h =
-    let p = guard_more (is_none s.rounds) Order (cond (not (names_sessions (length s.sessions) a)) (Err Session) (cond (nat_lt (later (latest s.answers) a) (latest s.answers)) (Err Clock) (Ok (record s { answers = s.answers ++ a ∷ [] })))) s' h in
-    let q = guard_more (not (names_sessions (length s.sessions) a)) Session (cond (nat_lt (later (latest s.answers) a) (latest s.answers)) (Err Clock) (Ok (record s { answers = s.answers ++ a ∷ [] }))) s' p.1 in
-    let r = guard_ok (nat_lt (later (latest s.answers) a) (latest s.answers)) Clock (record s { answers = s.answers ++ a ∷ [] }) s' q.1 in
+    let p = guard_more (is_none s.rounds) Order (cond (not (names_sessions (length s.sessions) a)) (Err Session)
+    (cond (nat_lt (later (latest s.answers) a) (latest s.answers)) (Err Clock)
+    (Ok (record s { answers = s.answers ++ a ∷ [] })))) s' h in
+    let q = guard_more (not (names_sessions (length s.sessions) a)) Session
+    (cond (nat_lt (later (latest s.answers) a) (latest s.answers)) (Err Clock)
+    (Ok (record s { answers = s.answers ++ a ∷ [] }))) s' p.1 in
+    let r = guard_ok (nat_lt (later (latest s.answers) a) (latest s.answers)) Clock
+    (record s { answers = s.answers ++ a ∷ [] }) s' q.1 in
     let P : Script → Type 0 = λ v. Reached v × (lines_of v ≡ lines_of s ++ lines.Answer a ∷ []) in
-    subst P r.1 (never s.rounds ((s.start ≡ None) × (s.sessions ≡ []) × (s.answers ++ a ∷ [] ≡ [])) p.0, simp (map-append, append_assoc))
+    subst P r.1 (
+      never s.rounds ((s.start ≡ None) × (s.sessions ≡ []) × (s.answers ++ a ∷ [] ≡ [])) p.0,
+      simp (map-append, append_assoc),
+    )
 
-step : (s s' : Script) (text : List ℕ) (b : Bool) → is_skipped text ≡ b → cond b (Ok s) ((line_of (words_of text) >>= built) >>= add s) ≡ Ok s' → ((is_skipped text ≡ true) × (s ≡ s')) ⊎ ((is_skipped text ≡ false) × ((line : Line) × ((line_of (words_of text) >>= built) ≡ Ok line) × (add s line ≡ Ok s')))
+step : (s s' : Script) (text : List ℕ) (b : Bool) → is_skipped text ≡ b →
+    cond b (Ok s) ((line_of (words_of text) >>= built) >>= add s) ≡ Ok s' →
+    ((is_skipped text ≡ true) × (s ≡ s')) ⊎ ((is_skipped text ≡ false)
+    × ((line : Line) × ((line_of (words_of text) >>= built) ≡ Ok line) × (add s line ≡ Ok s')))
 step s s' text true e h = inl (e, cc)
 step s s' text false e h = inr (e, bind_ok (line_of (words_of text) >>= built) (add s) s' h)
 
-pub read_step : (s s' : Script) (text : List ℕ) → read_line s text ≡ Ok s' → ((is_skipped text ≡ true) × (s ≡ s')) ⊎ ((is_skipped text ≡ false) × ((line : Line) × ((line_of (words_of text) >>= built) ≡ Ok line) × (add s line ≡ Ok s')))
+pub read_step : (s s' : Script) (text : List ℕ) → read_line s text ≡ Ok s' →
+    ((is_skipped text ≡ true) × (s ≡ s')) ⊎ ((is_skipped text ≡ false)
+    × ((line : Line) × ((line_of (words_of text) >>= built) ≡ Ok line) × (add s line ≡ Ok s')))
 unfolding read_line
 read_step s s' text h = step s s' text (is_skipped text) refl h
 
-pub say_shape : (n : ℕ) (s s' : Script) (texts : List (List ℕ)) → Reached s → read_lines n s texts ≡ Ok s' → (said : List Line) × Say texts said × (lines_of s' ≡ lines_of s ++ said)
+pub say_shape : (n : ℕ) (s s' : Script) (texts : List (List ℕ)) → Reached s → read_lines n s texts ≡ Ok s' →
+    (said : List Line) × Say texts said × (lines_of s' ≡ lines_of s ++ said)
 unfolding read_lines
-say_shape n s s' [] reached h = let same : s ≡ s' = cc in ([], refl, ap lines_of (sym same) ∙ sym (append-nil (lines_of s)))
+say_shape n s s' [] reached h = let same : s ≡ s' =
+    cc in ([], refl, ap lines_of (sym same) ∙ sym (append-nil (lines_of s)))
 say_shape n s s' (text ∷ texts) reached h =
     let b = bind_ok (at_line n (read_line s text)) (λ v. read_lines (n + 1) v texts) s' h in
     elim (read_step s b.0 text (at_ok n (read_line s text) b.0 b.1)) [
@@ -102,21 +134,27 @@ say_shape n s s' (text ∷ texts) reached h =
       | inr taken ↦
           let line = taken.1.0 in
           let shape = add_shape s b.0 line reached taken.1.2 in
-          let rest = say_shape (n + 1) b.0 s' texts shape.0 b.2 in
-          (line ∷ rest.0, inr (taken.0, (line, rest.0, refl, taken.1.1, rest.1)), rest.2 ∙ ap (λ v. v ++ rest.0) shape.1 ∙ append_assoc (lines_of s) (line ∷ []) rest.0)
+          let rest = say_shape (n + 1) b.0 s' texts shape.0 b.2 in (
+            line ∷ rest.0,
+            inr (taken.0, (line, rest.0, refl, taken.1.1, rest.1)),
+            rest.2 ∙ ap (λ v. v ++ rest.0) shape.1
+                ∙ append_assoc (lines_of s) (line ∷ []) rest.0,
+          )
     ]
 
 whole_ok : (s s' : Script) → whole s ≡ Ok s' → s ≡ s'
 whole_ok s s' h = (guard_ok (is_none s.rounds) (record { line = 0; reason = Order }) s s' h).1
 
-guarded : {A E : Type 0} (b c : Bool) (d e : E) (r : Result A E) (y : A) → cond b (Err d) (cond c (Err e) r) ≡ Ok y → r ≡ Ok y
+guarded : {A E : Type 0} (b c : Bool) (d e : E) (r : Result A E) (y : A) → cond b (Err d) (cond c (Err e) r) ≡ Ok y →
+    r ≡ Ok y
 guarded b c d e r y h = (guard_more c e r y (guard_more b d (cond c (Err e) r) y h).1).1
 
 -- A script is what its lines say.
 pub script_lines : (text : List ℕ) (s : Script) → script text ≡ Ok s → read_lines 1 empty (lines_in text) ≡ Ok s
 unfolding script
 script_lines text s h =
-    let r = guarded (nat_lt 16777216 (length text)) (not (is_utf8 text)) (record { line = 0; reason = Length }) (record { line = 0; reason = Text }) (read_lines 1 empty (lines_in text) >>= whole) s h in
+    let r = guarded (nat_lt 16777216 (length text)) (not (is_utf8 text)) (record { line = 0; reason = Length })
+    (record { line = 0; reason = Text }) (read_lines 1 empty (lines_in text) >>= whole) s h in
     let b = bind_ok (read_lines 1 empty (lines_in text)) whole s r in
     b.1 ∙ ap (λ v. Ok v) (whole_ok b.0 s b.2)
 
@@ -125,6 +163,7 @@ script_says text s h =
     let shape = say_shape 1 empty s (lines_in text) (λ e. (refl, refl, refl)) (script_lines text s h) in
     rw shape.2 shape.1
 
-pub read_says : (text : List ℕ) (r : Result Script ScriptError) → GivesAt r (script text) → IfOk r (λ s. Say (lines_in text) (lines_of s))
+pub read_says : (text : List ℕ) (r : Result Script ScriptError) → GivesAt r (script text) →
+    IfOk r (λ s. Say (lines_in text) (lines_of s))
 read_says text (Ok s) h = script_says text s h
 read_says text (Err e) h = tt

@@ -46,7 +46,8 @@ start_line _ = Err Form
 abbrev pub mechanism_word : List ℕ → Result AuthMechanism Reason
 mechanism_word word = ok_or (mechanism word) Form
 
--- client MECH USER HELLO FLATPAK DEADLINE ADDRESS: the address is the rest of the line behind the space after the deadline
+-- client MECH USER HELLO FLATPAK DEADLINE ADDRESS: the address is the rest of the line behind the space after the
+-- deadline
 unfoldable pub client_line : List (List ℕ) → Result Line Reason
 client_line (mech ∷ user ∷ hello ∷ flatpak ∷ deadline ∷ a ∷ address) = do
   mech ← optional mechanism_word mech
@@ -54,7 +55,15 @@ client_line (mech ∷ user ∷ hello ∷ flatpak ∷ deadline ∷ a ∷ address)
   hello ← optional bytes hello
   flatpak ← flag flatpak
   deadline ← optional (number (2 ^ 64)) deadline
-  Ok (lines.Session (record { party = parties.Client (join_with_byte 32 (a ∷ address)) (record { mechanism = mech; user = user; hello = hello; flatpak = flatpak }); deadline = deadline }))
+  Ok (lines.Session (record {
+    party = parties.Client (join_with_byte 32 (a ∷ address)) (record {
+      mechanism = mech;
+      user = user;
+      hello = hello;
+      flatpak = flatpak;
+    });
+    deadline = deadline;
+  }))
 client_line _ = Err Form
 
 abbrev pub guid_word : List ℕ → Result (List ℕ) Reason
@@ -67,7 +76,10 @@ server_line (own ∷ mech ∷ permitted ∷ deadline ∷ []) = do
   mech ← mechanism_word mech
   permitted ← optional (number (2 ^ 32)) permitted
   deadline ← optional (number (2 ^ 64)) deadline
-  Ok (lines.Session (record { party = parties.Server (record { guid = own; mechanism = mech; permitted = permitted }); deadline = deadline }))
+  Ok (lines.Session (record {
+    party = parties.Server (record { guid = own; mechanism = mech; permitted = permitted });
+    deadline = deadline;
+  }))
 server_line _ = Err Form
 
 -- an IP address: two hexadecimal digits for each byte, the highest byte first
@@ -175,9 +187,12 @@ without n word = take (length word - n) word
 -- a source and its directions
 unfoldable pub ready : List ℕ → Result Ready Reason
 ready word =
-    if ends_with nat_eq word (codes "rw") then (source (without 2 word) >>= λ from. Ok (record { source = from; read = true; write = true }))
-    else if ends_with nat_eq word (codes "r") then (source (without 1 word) >>= λ from. Ok (record { source = from; read = true; write = false }))
-    else if ends_with nat_eq word (codes "w") then (source (without 1 word) >>= λ from. Ok (record { source = from; read = false; write = true }))
+    if ends_with nat_eq word (codes "rw")
+    then (source (without 2 word) >>= λ from. Ok (record { source = from; read = true; write = true }))
+    else if ends_with nat_eq word (codes "r")
+    then (source (without 1 word) >>= λ from. Ok (record { source = from; read = true; write = false }))
+    else if ends_with nat_eq word (codes "w")
+    then (source (without 1 word) >>= λ from. Ok (record { source = from; read = false; write = true }))
     else Err Form
 
 unfoldable pub readies : List (List ℕ) → Result (List Ready) Reason
@@ -188,10 +203,16 @@ readies (word ∷ rest) = do
   Ok (first ∷ others)
 
 abbrev pub wait_word : List ℕ → Result ScriptWait Reason
-wait_word kind = if kind is codes "interrupted" then Ok waits.Interrupted else if kind is codes "fault" then Ok waits.Failed else Err Form
+wait_word kind =
+    if kind is codes "interrupted" then Ok waits.Interrupted
+    else if kind is codes "fault" then Ok waits.Failed
+    else Err Form
 
 abbrev pub wait_with : List ℕ → List (List ℕ) → Result ScriptWait Reason
-wait_with kind rest = if kind is codes "reports" then (readies rest >>= λ rs. Ok (waits.Reported rs)) else if length rest == 0 then wait_word kind else Err Form
+wait_with kind rest =
+    if kind is codes "reports" then (readies rest >>= λ rs. Ok (waits.Reported rs))
+    else if length rest == 0 then wait_word kind
+    else Err Form
 
 -- reports and any number of reports, interrupted or fault
 unfoldable pub wait_answer : List (List ℕ) → Result ScriptWait Reason
@@ -262,13 +283,8 @@ abbrev pub line_of : List (List ℕ) → Result Line Reason
 line_of [] = Err Form
 line_of (word ∷ rest) = line_with word rest
 
-abbrev pub is_built_dial : DialAnswer → Bool
-is_built_dial (dials.Opened _) = true
-is_built_dial dials.Failed = true
-is_built_dial _ = false
-
 abbrev pub is_built_answer : Answer → Bool
-is_built_answer (answers.Dial _ answer) = is_built_dial answer
+is_built_answer (answers.Dial _ _) = true
 is_built_answer (answers.Recv _ _) = true
 is_built_answer (answers.Send _ _) = true
 is_built_answer (answers.Add _) = true

@@ -59,7 +59,8 @@ question_words (questions.Abstract name) = codes "abstract" ∷ bytes_word name 
 question_words (questions.Lookup host port) = codes "lookup" ∷ bytes_word host ∷ decimal port ∷ []
 question_words (questions.Tcp peer) = codes "tcp" ∷ peer_word peer ∷ []
 question_words (questions.Nonce file) = codes "nonce" ∷ bytes_word file ∷ []
-question_words (questions.Start program arg0 args) = codes "start" ∷ bytes_word program ∷ optional_word arg0 ∷ map bytes_word args
+question_words (questions.Start program arg0 args) =
+    codes "start" ∷ bytes_word program ∷ optional_word arg0 ∷ map bytes_word args
 question_words questions.Ibus = codes "ibus" ∷ []
 question_words questions.Accept = codes "accept" ∷ []
 
@@ -83,7 +84,8 @@ send_words sends.Failed = codes "fault" ∷ []
 
 -- the directions, n for none
 abbrev pub directions : Bool → Bool → List ℕ
-directions read write = if read then (if write then codes "rw" else codes "r") else (if write then codes "w" else codes "n")
+directions read write =
+    if read then (if write then codes "rw" else codes "r") else (if write then codes "w" else codes "n")
 
 abbrev pub report_word : Report → List ℕ
 report_word r = decimal r.key ++ directions r.read r.write
@@ -94,13 +96,15 @@ wait_words waits.Interrupted = codes "interrupted" ∷ []
 wait_words waits.Failed = codes "fault" ∷ []
 
 unfoldable pub event_words : Event → List (List ℕ)
-event_words (events.Dial wire question answer) = codes "dial" ∷ decimal wire ∷ (question_words question ++ codes "=" ∷ dial_words answer)
+event_words (events.Dial wire question answer) =
+    codes "dial" ∷ decimal wire ∷ (question_words question ++ codes "=" ∷ dial_words answer)
 event_words (events.Recv wire asked answer) = codes "recv" ∷ decimal wire ∷ decimal asked ∷ recv_words answer
 event_words (events.Send wire offered answer) = codes "send" ∷ decimal wire ∷ bytes_word offered ∷ send_words answer
 event_words (events.Close wire) = codes "close" ∷ decimal wire ∷ []
 event_words (events.Now moment) = codes "now" ∷ decimal moment ∷ []
 event_words (events.Add wire key ok) = codes "add" ∷ decimal wire ∷ decimal key ∷ ok_word ok ∷ []
-event_words (events.Modify wire key read write ok) = codes "modify" ∷ decimal wire ∷ decimal key ∷ directions read write ∷ ok_word ok ∷ []
+event_words (events.Modify wire key read write ok) =
+    codes "modify" ∷ decimal wire ∷ decimal key ∷ directions read write ∷ ok_word ok ∷ []
 event_words (events.Delete wire key ok) = codes "delete" ∷ decimal wire ∷ decimal key ∷ ok_word ok ∷ []
 event_words (events.Notify ok) = codes "notify" ∷ ok_word ok ∷ []
 event_words (events.Wait timeout answer) = codes "wait" ∷ number_word timeout ∷ wait_words answer
@@ -130,7 +134,9 @@ ending_word endings.TimedOut = codes "timed-out"
 ending_word endings.Waiting = codes "waiting"
 
 abbrev pub ended_words : Ended → List (List ℕ)
-ended_words e = codes "session" ∷ decimal e.wire ∷ ending_word e.ending ∷ bytes_word e.written ∷ bytes_word e.leftover ∷ number_word e.moment ∷ []
+ended_words e =
+    codes "session" ∷ decimal e.wire ∷ ending_word e.ending ∷ bytes_word e.written ∷ bytes_word e.leftover
+    ∷ number_word e.moment ∷ []
 
 -- a line for each session
 abbrev pub session_lines : List Ended → List ℕ

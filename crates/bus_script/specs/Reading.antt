@@ -36,7 +36,8 @@ abbrev pub GivesAt : {X : Type 0} → Result X ScriptError → Result X Refused 
 GivesAt (Ok x) read = read ≡ Ok x
 GivesAt (Err e) read = FailsAt e read
 
--- The parts are the first line and what follows it, and the lines of the text are that line and those of the rest. A text without a line feed is one line.
+-- The parts are the first line and what follows it, and the lines of the text are that line and those of the rest. A
+-- text without a line feed is one line.
 abbrev pub CutsLine : List ℕ → Option (Bor (List ℕ) × Bor (List ℕ)) → Type 0
 CutsLine text r = MatchOption r (lines_in text ≡ text ∷ [])
     (λ x. (lines_in text ≡ x.0.now ∷ lines_in x.1.now) × (length x.0.now + length x.1.now + 1 ≡ length text))

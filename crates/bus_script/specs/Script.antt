@@ -64,8 +64,12 @@ has_more s = is_some s.start || nat_lt 0 (length s.sessions) || nat_lt 0 (length
 -- the script with one more line, or why that line is wrong behind it
 unfoldable pub add : Script → Line → Result Script Reason
 add s (lines.Rounds n) = if is_some s.rounds then Err reasons.Order else Ok (record s { rounds = Some n })
-add s (lines.Start tick timer) = if is_none s.rounds || has_more s then Err reasons.Order else Ok (record s { start = Some (record { tick = tick; timer = timer }) })
-add s (lines.Session l) = if is_none s.rounds || nat_lt 0 (length s.answers) then Err reasons.Order else Ok (record s { sessions = s.sessions ++ l ∷ [] })
+add s (lines.Start tick timer) =
+    if is_none s.rounds || has_more s then Err reasons.Order
+    else Ok (record s { start = Some (record { tick = tick; timer = timer }) })
+add s (lines.Session l) =
+    if is_none s.rounds || nat_lt 0 (length s.answers) then Err reasons.Order
+    else Ok (record s { sessions = s.sessions ++ l ∷ [] })
 add s (lines.Answer a) =
     if is_none s.rounds then Err reasons.Order
     else if not (names_sessions (length s.sessions) a) then Err reasons.Session
@@ -95,7 +99,8 @@ read_lines n s (line ∷ more) = at_line n (read_line s line) >>= λ s'. read_li
 abbrev pub whole : Script → Result Script Refused
 whole s = if is_none s.rounds then Err (record { line = 0; reason = reasons.Order }) else Ok s
 
--- Each line is ended by a line feed, which the last may lack: what stands behind the last line feed is an empty line, if nothing else.
+-- Each line is ended by a line feed, which the last may lack: what stands behind the last line feed is an empty line,
+-- if nothing else.
 abbrev pub lines_in : List ℕ → List (List ℕ)
 lines_in text = parts_of 10 text
 

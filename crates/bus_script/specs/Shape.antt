@@ -11,7 +11,8 @@ use Rattle.bus_script.specs.declared.line.Line.TheVariants as lines
 abbrev pub Say : List (List ℕ) → List Line → Type 0
 Say [] said = said ≡ []
 Say (text ∷ texts) said = ((is_skipped text ≡ true) × Say texts said)
-    ⊎ ((is_skipped text ≡ false) × ((line : Line) × (rest : List Line) × (said ≡ line ∷ rest) × ((line_of (words_of text) >>= built) ≡ Ok line) × Say texts rest))
+    ⊎ ((is_skipped text ≡ false) × ((line : Line) × (rest : List Line) × (said ≡ line ∷ rest)
+    × ((line_of (words_of text) >>= built) ≡ Ok line) × Say texts rest))
 
 abbrev pub rounds_lines : Option ℕ → List Line
 rounds_lines None = []
@@ -23,4 +24,5 @@ start_lines (Some s) = lines.Start s.tick s.timer ∷ []
 
 -- the rounds, then the start, then the sessions, then the answers
 abbrev pub lines_of : Script → List Line
-lines_of s = ((rounds_lines s.rounds ++ start_lines s.start) ++ map lines.Session s.sessions) ++ map lines.Answer s.answers
+lines_of s = ((rounds_lines s.rounds ++ start_lines s.start) ++ map lines.Session s.sessions)
+    ++ map lines.Answer s.answers

@@ -29,7 +29,10 @@ words_of line = parts_of 32 line
 
 -- a number below the limit: the text is the one that is written of it
 abbrev pub number_of : ℕ → List ℕ → Option ℕ
-number_of limit text = if nat_lt (digits_value 10 text) limit && bytes_eq text (decimal (digits_value 10 text)) then Some (digits_value 10 text) else None
+number_of limit text =
+    if nat_lt (digits_value 10 text) limit && bytes_eq text (decimal (digits_value 10 text))
+    then Some (digits_value 10 text)
+    else None
 
 abbrev pub number : ℕ → List ℕ → Result ℕ Reason
 number limit word = ok_or (number_of limit word) Form

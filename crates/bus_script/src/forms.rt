@@ -311,7 +311,8 @@ fn send_answer(words: &[&str]) -> Result<SendAnswer, Reason>
 /// The text without that end, where it has it.
 #[tactic(auto, using(crate::proofs::Ends::strip_suffix_text))]
 fn cut_end<'a>(word: &'a str, end: &str) -> Option<&'a str>
-    ensures { MatchOption result (ends_with nat_eq word.now end.now ≡ false) (λ x. (ends_with nat_eq word.now end.now ≡ true) × (x.now ≡ without (length end.now) word.now)) }
+    ensures { MatchOption result (ends_with nat_eq word.now end.now ≡ false)
+        (λ x. (ends_with nat_eq word.now end.now ≡ true) × (x.now ≡ without (length end.now) word.now)) }
 {
     word.strip_suffix(end)
 }
@@ -319,7 +320,8 @@ fn cut_end<'a>(word: &'a str, end: &str) -> Option<&'a str>
 /// The text without that front, where it has it.
 #[tactic(auto, using(crate::proofs::Ends::strip_prefix_text))]
 fn cut_front<'a>(word: &'a str, front: &str) -> Option<&'a str>
-    ensures { MatchOption result (starts_with nat_eq word.now front.now ≡ false) (λ x. (starts_with nat_eq word.now front.now ≡ true) × (x.now ≡ drop (length front.now) word.now)) }
+    ensures { MatchOption result (starts_with nat_eq word.now front.now ≡ false)
+        (λ x. (starts_with nat_eq word.now front.now ≡ true) × (x.now ≡ drop (length front.now) word.now)) }
 {
     word.strip_prefix(front)
 }

@@ -1,7 +1,7 @@
 //! Scripts: what the outside answers to the sessions of a run, as a text, and the text of what came of it.
 //!
-//! [`read`] says which script a text spells, or where and why it spells none. [`printed`] is the text of the endings and
-//! of the events.
+//! [`read`] says which script a text spells, or where and why it spells none. [`printed`] is the text of the endings
+//! and of the events.
 #![tactic(auto)]
 
 mod forms;

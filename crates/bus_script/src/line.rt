@@ -133,8 +133,8 @@ pub enum ScriptWait {
     Failed,
 }
 
-/// An answer of the outside, as its line gives it. A moment is a reading of the clock in nanoseconds; where an answer is a
-/// `bool`, `false` is a fault.
+/// An answer of the outside, as its line gives it. A moment is a reading of the clock in nanoseconds; where an answer
+/// is a `bool`, `false` is a fault.
 #[derive(Debug, Drop)]
 pub enum Answer {
     Dial { session: u32, answer: DialAnswer },

@@ -23,7 +23,8 @@ fn plain_number(word: &str) -> Option<u64>
     word.parse::<u64>().ok()
 }
 
-/// The number that the text writes out, where it writes one below the limit. It has no sign, and no zero in front of other digits.
+/// The number that the text writes out, where it writes one below the limit. It has no sign, and no zero in front of
+/// other digits.
 #[tactic(auto, using(crate::proofs::Numbers::narrow_some, crate::proofs::Numbers::narrow_beyond, crate::proofs::Numbers::narrow_none))]
 pub fn number_below(word: &str, limit: u64) -> Option<u64>
     ensures value { result ≡ number_of limit word.now }

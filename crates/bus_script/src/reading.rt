@@ -2,7 +2,7 @@
 
 ghost use Rattle.std.specs.Prelude.{◌≡◌, ◌≤◌, List, length, IfOk, Some, Ok};
 ghost use Rattle.std.specs.List.{list_all};
-ghost use Rattle.bus_script.specs.Forms.{is_built_line, is_built_answer, is_built_dial};
+ghost use Rattle.bus_script.specs.Forms.{is_built_line, is_built_answer};
 ghost use Rattle.bus_script.specs.Reading.{Steps, StepsAt, GivesAt, CutsLine};
 ghost use Rattle.bus_script.specs.Shape.{Say, lines_of};
 ghost use Rattle.bus_script.specs.Laws.{HasBuiltSessions, HasBuiltAnswers, NamesItsSessions, IsForward};
@@ -12,7 +12,6 @@ use crate::forms::line_of;
 use crate::line::{Answer, Line, LineError, Ready, ReadySource, Reason, ScriptWait, Start};
 use crate::words::words;
 use bus_session::Session;
-use react_core::outside::DialAnswer;
 use std::alloc::Global;
 use std::marker::Model;
 use thiserror::Error;
@@ -47,7 +46,12 @@ impl Model for Script {
 
     ghost Value = { Script };
 
-    ghost view = { λ s. record { rounds = Some s.rounds; start = s.start; sessions = s.sessions.items; answers = s.answers.items } };
+    ghost view = { λ s. record {
+      rounds = Some s.rounds;
+      start = s.start;
+      sessions = s.sessions.items;
+      answers = s.answers.items;
+    } };
 }
 
 /// What a script is made of.
@@ -124,7 +128,12 @@ impl Model for Draft {
 
     ghost Value = { Script };
 
-    ghost view = { λ d. record { rounds = d.rounds; start = d.start; sessions = d.sessions.items; answers = d.answers.items } };
+    ghost view = { λ d. record {
+      rounds = d.rounds;
+      start = d.start;
+      sessions = d.sessions.items;
+      answers = d.answers.items;
+    } };
 
     ghost invariant = { λ d. d.moment ≡ latest d.answers.items };
 }
@@ -298,8 +307,8 @@ fn is_built_answer(answer: &Answer) -> bool
     ensures { result ≡ is_built_answer answer.now }
 {
     match answer {
-        Answer::Dial { answer, .. } => is_built_dial(answer),
-        Answer::Recv { .. }
+        Answer::Dial { .. }
+        | Answer::Recv { .. }
         | Answer::Send { .. }
         | Answer::Add(_)
         | Answer::Modify(_)
@@ -307,12 +316,6 @@ fn is_built_answer(answer: &Answer) -> bool
         | Answer::Wait(_) => true,
         _ => false,
     }
-}
-
-fn is_built_dial(answer: &DialAnswer) -> bool
-    ensures { result ≡ is_built_dial answer.now }
-{
-    matches!(answer, DialAnswer::Opened { .. } | DialAnswer::Failed)
 }
 
 /// The first line and what follows its line feed, where there is one.
@@ -364,7 +367,7 @@ fn read_exact(alloc: Global, bytes: &[u8]) -> Result<Script, ScriptError>
 /// Reads the script that the bytes spell.
 ///
 /// A text that spells none is refused with the number of its first bad line and the reason.
-#[tactic(auto, using(crate::proofs::Shape::read_says, crate::proofs::Laws::sessions_built, crate::proofs::Laws::answers_built, crate::proofs::Laws::sessions_named, crate::proofs::Laws::clock_forward))]
+#[tactic(auto, using(crate::proofs::Shape::read_says, crate::proofs::Laws::sessions_built, crate::proofs::Laws::answers_built, crate::proofs::Laws::sessions_named, crate::proofs::Laws::is_forward))]
 pub fn read(alloc: Global, text: &[u8], _form: ScriptForm) -> Result<Script, ScriptError>
     ensures exact { GivesAt result (script text.now) }
     // Its lines say the rounds, then the start, then the sessions, then the answers, and nothing else.

@@ -1,6 +1,6 @@
 use super::*;
 use bus_script::{Answer, EventLine, Readies};
-use react_core::outside::Peers;
+use react_core::outside::DialAnswer;
 use std::process::Abort;
 use std::test::Fail;
 
@@ -133,6 +133,105 @@ fn a_scene_answers_from_its_script_and_tells_each_call(rt: HostRuntime) -> Resul
     for (event, line) in events.iter().zip(lines) {
         let text = format!(in alloc; "{}", EventLine(event))?;
         assert_eq!(rt; text.as_str(), line);
+    }
+    Ok(())
+}
+
+/// One session, with an answer of each kind to its dialling.
+fn kinds(alloc: Global) -> Result<QueuedAnswers, Fail> {
+    let mut script = QueuedAnswers::new(alloc, 1)?;
+    script.push(dial(0, DialAnswer::Opened { passes: true }))?;
+    let peers = Peers::from_vec(Vec::from_slice(alloc, &[PEER])?);
+    script.push(dial(0, DialAnswer::Found(peers)))?;
+    let nonce = Bytes::from_vec(b"n".to_vec(alloc)?);
+    script.push(dial(0, DialAnswer::Nonce(nonce)))?;
+    let text = Bytes::from_vec(b"o".to_vec(alloc)?);
+    script.push(dial(
+        0,
+        DialAnswer::Output {
+            success: true,
+            text,
+        },
+    ))?;
+    script.push(dial(0, DialAnswer::Failed))?;
+    Ok(script)
+}
+
+const PEER: Peer = Peer::V4 {
+    ip: 0x7f00_0001,
+    port: 80,
+};
+
+/// Whether a program named `q` is started with two arguments.
+fn starts(alloc: Global, scene: &mut Scene) -> Result<bool, Fail> {
+    let mut args = Vec::new(alloc);
+    args.push(Bytes::from_vec(b"r".to_vec(alloc)?))?;
+    args.push(Bytes::from_vec(Vec::new(alloc)))?;
+    let args = Args::from_vec(args);
+    Ok(scene.start(0, "p", Some("q"), &args) == Ok(Opened { passes: true }))
+}
+
+/// Asks the question of this number: whether the answer of its kind was got.
+fn asks(alloc: Global, scene: &mut Scene, question: usize) -> Result<bool, Fail> {
+    let opened = Ok(Opened { passes: true });
+    match question {
+        0 => Ok(scene.dial_unix(0, "/a") == opened),
+        1 => Ok(scene.dial_abstract(0, b"\xff") == opened),
+        2 => match scene.lookup(alloc, 0, "h", 80) {
+            Ok(peers) => Ok(peers.as_slice() == [PEER].as_slice()),
+            Err(_) => Ok(false),
+        },
+        3 => Ok(scene.dial_tcp(0, PEER) == opened),
+        4 => match scene.read_nonce(alloc, 0, "/n") {
+            Ok(nonce) => Ok(nonce.as_slice() == b"n".as_slice()),
+            Err(_) => Ok(false),
+        },
+        5 => starts(alloc, scene),
+        6 => match scene.run_ibus(alloc, 0) {
+            Ok(output) => Ok(output.success && output.text.as_slice() == b"o".as_slice()),
+            Err(_) => Ok(false),
+        },
+        _ => Ok(scene.accept(0) == opened),
+    }
+}
+
+#[test]
+fn each_question_takes_an_answer_of_its_kind_and_uses_up_any(rt: HostRuntime) -> Result<(), Fail> {
+    let alloc = rt.alloc();
+    let questions = [
+        ("unix 2f61", 0),
+        ("abstract ff", 0),
+        ("lookup 68 80", 1),
+        ("tcp 4-7f000001-80", 0),
+        ("nonce 2f6e", 2),
+        ("start 70 71 72 .", 0),
+        ("ibus", 3),
+        ("accept", 0),
+    ];
+    let answers = [
+        "open y",
+        "peers 4-7f000001-80",
+        "nonce 6e",
+        "output y 6f",
+        "fault",
+        "fault",
+    ];
+    for (question, (asked, fitting)) in questions.iter().enumerate() {
+        let mut scene = Scene::new(alloc, kinds(alloc)?)?;
+        for (kind, answer) in answers.iter().enumerate() {
+            let fits = kind == *fitting;
+            assert!(rt;
+                asks(alloc, &mut scene, question)? == fits,
+                "{asked} {kind}"
+            );
+            let Some(event) = scene.events().get(kind) else {
+                return Err(Fail::from("not told"));
+            };
+            let told = format!(in alloc; "{}", EventLine(event))?;
+            let given = if fits { *answer } else { "fault" };
+            let wanted = format!(in alloc; "dial 0 {asked} = {given}")?;
+            assert_eq!(rt; told.as_str(), wanted.as_str());
+        }
     }
     Ok(())
 }

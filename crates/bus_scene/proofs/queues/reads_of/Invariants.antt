@@ -5,7 +5,9 @@ use Rattle.bus_scene.proofs.queues.reads_of.Given as goal
 
 abbrev pub invariant-loop-answers : goal.invariant-loop-answers
 invariant-loop-answers l = record {
-  whole : map whole_reads l.reads.items ++ map items_of (into_iter_items l.answers-iterator) ≡ map items_of l.fn.lists.items;
-  left : map left_reads l.reads.items ++ map items_of (into_iter_items l.answers-iterator) ≡ map items_of l.fn.lists.items;
+  whole : map whole_reads l.reads.items ++ map items_of (into_iter_items l.answers-iterator)
+      ≡ map items_of l.fn.lists.items;
+  left : map left_reads l.reads.items ++ map items_of (into_iter_items l.answers-iterator)
+      ≡ map items_of l.fn.lists.items;
   counted : into_iter_len l.answers-iterator ≡ length (into_iter_items l.answers-iterator);
 }

@@ -5,8 +5,11 @@ use Rattle.bus_scene.proofs.scene.delete.Goals as goal
 
 pub returns-clause-playing : goal.returns-clause-playing
 returns-clause-playing c =
-    plays_delete c.args.player.now.answers c.advance.new.self c.args.player.now.told.items c.tell.new.told.items c.args.player.now.keys.items c.args.player.now.last c.args.wire c.args.key c.outcome-ok.result
-    (take c.args.player.now.keys.len (c.set_key.new.keys ++ drop (length c.set_key.new.keys) c.args.player.now.keys.items))
+    plays_delete c.args.player.now.answers c.advance.new.self c.args.player.now.told.items c.tell.new.told.items
+    c.args.player.now.keys.items c.args.player.now.last c.args.wire c.args.key c.outcome-ok.result
+    (take c.args.player.now.keys.len (c.set_key.new.keys ++ drop (length c.set_key.new.keys)
+    c.args.player.now.keys.items))
     c.requires.playing c.outcome-ok.ensures c.advance.ensures.left c.advance.ensures.whole c.tell.ensures
-    (written_whole c.args.player.now.keys.len c.set_key.new.keys c.args.player.now.keys.items (grind (arith, common_steps)) (grind (arith, common_steps))
+    (written_whole c.args.player.now.keys.len c.set_key.new.keys c.args.player.now.keys.items
+    (grind (arith, common_steps)) (grind (arith, common_steps))
     ∙ c.set_key.ensures ∙ ap (λ ks. set ks c.args.wire None) c.deref_mut.ensures.value)

@@ -9,5 +9,6 @@ pub loop-ready-preserved : goal.loop-ready-preserved
 loop-ready-preserved c =
     c.in_ok-push_some.ensures
     ∙ ap (λ xs. xs ++ option_to_list c.report_in.result) c.loop-ready.invariant
-    ∙ ap (λ r. filter_map (report_in c.args.keys.now) (take c.loop-ready.ready-index c.args.readies.now) ++ option_to_list r) c.report_in.ensures
+    ∙ ap (λ r. filter_map (report_in c.args.keys.now) (take c.loop-ready.ready-index c.args.readies.now)
+    ++ option_to_list r) c.report_in.ensures
     ∙ filter_map_more (report_in c.args.keys.now) c.args.readies.now c.loop-ready.ready-index _ c.loop-ready-test.true

@@ -4,4 +4,5 @@ use Rattle.bus_script.specs.Printed.{session_lines}
 use Rattle.bus_script.proofs.print.append_sessions.Given as goal
 
 abbrev pub invariant-loop-ended : goal.invariant-loop-ended
-invariant-loop-ended l = string_bytes l.text ≡ string_bytes l.initial.text ++ session_lines (take l.ended-index l.endeds)
+invariant-loop-ended l = string_bytes l.text ≡ string_bytes l.initial.text ++ session_lines
+    (take l.ended-index l.endeds)

@@ -7,7 +7,12 @@ use Rattle.bus_scene.proofs.scene.SceneRegistrar.delete.Goals as goal
 
 pub returns-clause-keeps : goal.returns-clause-keeps
 returns-clause-keeps c =
-    let now : c.delete.new.player.told.items ≡ c.args.self.now.told ++ event.Delete c.args.wire c.args.key c.delete.result ∷ [] = grind (arith, common_steps) in
+    let now : c.delete.new.player.told.items ≡ c.args.self.now.told ++ event.Delete c.args.wire c.args.key
+    c.delete.result ∷ [] = grind (arith, common_steps) in
     let script : script_of c.delete.new.player.answers ≡ c.args.self.now.script = grind (arith, common_steps) in
     let rooms : c.delete.new.player.rooms ≡ c.args.self.now.rooms = grind (arith, common_steps) in
-    keeps_poller c.args.self.now (record { script = script_of c.delete.new.player.answers; rooms = c.delete.new.player.rooms; told = c.delete.new.player.told.items }) (event.Delete c.args.wire c.args.key c.delete.result) script rooms now refl (λ w. refl) (λ w. refl)
+    keeps_poller c.args.self.now (record {
+      script = script_of c.delete.new.player.answers;
+      rooms = c.delete.new.player.rooms;
+      told = c.delete.new.player.told.items;
+    }) (event.Delete c.args.wire c.args.key c.delete.result) script rooms now refl (λ w. refl) (λ w. refl)

@@ -6,4 +6,5 @@ use Rattle.bus_script.proofs.print.SpacedBytesDisplay.fmt.Given as goal
 
 abbrev pub invariant-loop-bytes : goal.invariant-loop-bytes
 invariant-loop-bytes g l =
-    IsPlainFormatter l.initial.f → HasWritten g.W.Write.write_str_gives l.initial.f (flat_map (λ x. 32 ∷ bytes_word x) (take l.bytes-index l.bytes-items)) l.f
+    IsPlainFormatter l.initial.f → HasWritten g.W.Write.write_str_gives l.initial.f
+    (flat_map (λ x. 32 ∷ bytes_word x) (take l.bytes-index l.bytes-items)) l.f

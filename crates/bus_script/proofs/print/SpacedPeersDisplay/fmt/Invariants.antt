@@ -6,4 +6,5 @@ use Rattle.bus_script.proofs.print.SpacedPeersDisplay.fmt.Given as goal
 
 abbrev pub invariant-loop-peer : goal.invariant-loop-peer
 invariant-loop-peer g l =
-    IsPlainFormatter l.initial.f → HasWritten g.W.Write.write_str_gives l.initial.f (flat_map (λ x. 32 ∷ peer_word x) (take l.peer-index l.peer-items)) l.f
+    IsPlainFormatter l.initial.f → HasWritten g.W.Write.write_str_gives l.initial.f
+    (flat_map (λ x. 32 ∷ peer_word x) (take l.peer-index l.peer-items)) l.f

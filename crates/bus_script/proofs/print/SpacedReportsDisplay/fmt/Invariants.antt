@@ -6,4 +6,5 @@ use Rattle.bus_script.proofs.print.SpacedReportsDisplay.fmt.Given as goal
 
 abbrev pub invariant-loop-report : goal.invariant-loop-report
 invariant-loop-report g l =
-    IsPlainFormatter l.initial.f → HasWritten g.W.Write.write_str_gives l.initial.f (flat_map (λ x. 32 ∷ report_word x) (take l.report-index l.report-items)) l.f
+    IsPlainFormatter l.initial.f → HasWritten g.W.Write.write_str_gives l.initial.f
+    (flat_map (λ x. 32 ∷ report_word x) (take l.report-index l.report-items)) l.f
