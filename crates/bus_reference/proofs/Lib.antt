@@ -3,3 +3,4 @@ mod TextLemmas
 mod AskLemmas
 mod SaidLemmas
 mod UserLemmas
+mod ArgLemmas

@@ -36,3 +36,17 @@ pub line_some : (line text : List ℕ) (end : ℕ) → length line ≡ end + 2 �
 line_some line text end e f g u =
     let whole : is_utf8 (take end line) ≡ true = is_utf8-from_IsUtf8 _ u in
     sym (before_end line end e ∙ rw (f, whole) (ap (λ (t : List ℕ). Some t) (sym g)))
+
+-- whether bytes are text
+pub text_is : (bytes : List ℕ) → IsUtf8 bytes → true ≡ is_utf8 bytes
+text_is bytes u = sym (is_utf8-from_IsUtf8 bytes u)
+
+pub text_not : (bytes : List ℕ) → (IsUtf8 bytes → ⊥) → false ≡ is_utf8 bytes
+text_not bytes n = sym (not_utf8 (is_utf8 bytes) bytes refl n)
+
+-- bytes as a text, where they are one
+pub text_some : (bytes text : List ℕ) → text ≡ bytes → IsUtf8 bytes → Some text ≡ cond (is_utf8 bytes) (Some bytes) None
+text_some bytes text e u = rw (e, ← text_is bytes u) refl
+
+pub text_none : (bytes : List ℕ) → (IsUtf8 bytes → ⊥) → None ≡ cond (is_utf8 bytes) (Some bytes) None
+text_none bytes n = rw (← text_not bytes n) refl

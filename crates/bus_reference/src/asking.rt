@@ -120,7 +120,8 @@ fn ask_from(
 }
 
 /// What a party asks over its wire, once these bytes came and so many of its own were taken: to read or to send, or how
-/// the conversation ends (D-Bus specification, Authentication Protocol). A client is one that expects no GUID.
+/// the conversation ends (D-Bus specification, Authentication Protocol). A client expects the GUID that its address
+/// names.
 ///
 /// # Errors
 ///

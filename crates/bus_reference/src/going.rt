@@ -11,8 +11,10 @@ ghost use Rattle.bus_reference.specs.Views.{as_ask};
 ghost use Rattle.bus_reference.specs.Diallings.{as_opened, as_dialling};
 ghost use Rattle.bus_reference.specs.Goings.{ending_of, as_talked, as_outcome, as_progress, as_course};
 
+use crate::answering::dialled;
 use crate::asking::{Asked, ask, left};
-use crate::dialling::{Dialling, Opened, begins, dialled, same_bytes};
+use crate::dialling::{Dialling, Opened, begins};
+use crate::questions::same_bytes;
 use bus_session::{Ending, Party, Session};
 use react_core::outside::{Bytes, Event, OutOfMemory, RecvAnswer, SendAnswer};
 use react_core::reactor::Dir;
@@ -266,9 +268,13 @@ fn came_to(alloc: Global, dialling: Dialling) -> Progress
 }
 
 // An event is the answer to the question that is asked.
-fn after_dial(alloc: Global, dialling: &Dialling, event: &Event) -> Option<Progress>
-    ensures value { (p : Party) → option_map (as_progress p) result
-        ≡ after_in p (dials (as_dialling dialling.now)) event.now }
+fn after_dial(
+    alloc: Global,
+    dialling: Dialling,
+    event: &Event,
+) -> Result<Option<Progress>, OutOfMemory>
+    ensures value { (p : Party) → IfOk result (λ to. option_map (as_progress p) to
+        ≡ after_in p (dials (as_dialling dialling)) event.now) }
 {
     let Event::Dial {
         question,
@@ -276,10 +282,12 @@ fn after_dial(alloc: Global, dialling: &Dialling, event: &Event) -> Option<Progr
         ..
     } = event
     else {
-        return None;
+        return Ok(None);
     };
-    let dialling = dialled(alloc, dialling, question, answer)?;
-    Some(came_to(alloc, dialling))
+    let Some(dialling) = dialled(alloc, dialling, question, answer)? else {
+        return Ok(None);
+    };
+    Ok(Some(came_to(alloc, dialling)))
 }
 
 // The progress after one more event of its own, if that is the one that comes next.
@@ -293,7 +301,7 @@ fn after_in(
         ≡ after_in party.now (as_progress party.now progress) event.now) }
 {
     match progress {
-        Progress::Dials(dialling) => Ok(after_dial(alloc, &dialling, event)),
+        Progress::Dials(dialling) => after_dial(alloc, dialling, event),
         Progress::Converses(opened, talked) => {
             let asked = asked_next(alloc, party, &opened, &talked)?;
             after_asked(alloc, party, opened, talked, asked, event)
@@ -303,18 +311,13 @@ fn after_in(
 }
 
 /// Where a session begins.
-pub(crate) fn first_course(
-    alloc: Global,
-    session: &Session,
-) -> Result<Option<Course<'_>>, AllocError>
-    ensures value { IfOk result (λ c. option_map as_course c ≡ first_course session.now) }
+pub(crate) fn first_course(alloc: Global, session: &Session) -> Result<Course<'_>, AllocError>
+    ensures value { IfOk result (λ c. as_course c ≡ first_course session.now) }
 {
     let party = &session.party;
-    let Some(dialling) = begins(alloc, party)? else {
-        return Ok(None);
-    };
+    let dialling = begins(alloc, party)?;
     let progress = came_to(alloc, dialling);
-    Ok(Some(Course { party, progress }))
+    Ok(Course { party, progress })
 }
 
 // The session after one more event of its own, if that is the one that comes next.

@@ -4,10 +4,12 @@
 //! and each question is looked for anew from the first line on. It is there to be compared with.
 #![tactic(auto)]
 
+mod answering;
 mod asking;
 mod dialling;
 mod going;
 mod lines;
+mod questions;
 mod reading;
 mod serving;
 mod sessions;

@@ -29,7 +29,7 @@ fn course<'a>(
     ensures value { IfOk result (λ c. option_map as_course c ≡ course session.now events.now) }
 {
     let first = first_course(alloc, session)?;
-    goes_through(alloc, first, events)
+    goes_through(alloc, Some(first), events)
 }
 
 /// What a session comes to by the events of its own part and its last reading, in nanoseconds; none where they are not

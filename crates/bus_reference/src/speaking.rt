@@ -5,7 +5,7 @@ ghost use Rattle.bus_session.specs.Dialling.{conversation};
 ghost use Rattle.bus_reference.specs.Views.{as_said};
 ghost use Rattle.bus_reference.specs.Diallings.{as_opened};
 
-use crate::dialling::Opened;
+use crate::dialling::{Opened, address, guid_in};
 use crate::serving::server_says;
 use crate::talking::client_says;
 use crate::turns::Said;
@@ -13,7 +13,7 @@ use bus_session::Party;
 use react_core::outside::Bytes;
 use std::alloc::{AllocError, Global};
 
-/// What a party says after these lines, over this wire. A plain path names no GUID.
+/// What a party says after these lines, over this wire. A client expects the GUID that its address names.
 pub(crate) fn talk(
     alloc: Global,
     party: &Party,
@@ -23,7 +23,13 @@ pub(crate) fn talk(
     ensures value { IfOk result (λ s. as_said s ≡ conversation party.now (as_opened opened.now) lines.now) }
 {
     match party {
-        Party::Client { config, .. } => client_says(alloc, config, None, opened, lines),
+        Party::Client {
+            address: text,
+            config,
+        } => {
+            let read = address(alloc, text.as_str())?;
+            client_says(alloc, config, guid_in(&read), opened, lines)
+        }
         Party::Server(config) => server_says(alloc, config, opened.passes, lines),
     }
 }

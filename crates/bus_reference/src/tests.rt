@@ -6,6 +6,8 @@ use react_core::outside::{Bytes, DialAnswer, Event, Question, RecvAnswer, SendAn
 use std::alloc::Global;
 use std::test::Fail;
 
+mod addresses;
+
 const AUTH: &[u8] = b"\0AUTH EXTERNAL 31303030\r\n";
 
 const OK: &[u8] = b"OK 1234deadbeef1234deadbeef12345678\r\n";
