@@ -11,5 +11,4 @@ pub mod ValueLemmas
 pub mod AddressLemmas
 pub mod RoundTrip
 pub mod ReadBackLemmas
-pub mod Fronts
 pub mod EqualLemmas

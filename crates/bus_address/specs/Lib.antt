@@ -10,4 +10,3 @@ pub mod Reading
 pub mod Lookups
 pub mod Defaults
 pub mod ReadBack
-pub mod Plain
