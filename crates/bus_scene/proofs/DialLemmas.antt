@@ -1,11 +1,11 @@
 -- What a scene answers to dialling, and what that does to a play and to the counts of faults.
 use Rattle.std.proofs.Common.{◌≡◌, ◌≢◌, ℕ, Bool, true, false, eq-eqb, List, [], ◌∷◌, ◌++◌, length, map, Option, Some}
-use Rattle.std.proofs.Common.{None, Result, Ok, Err, refl, sym, ap, ◌∙◌, arith}
+use Rattle.std.proofs.Common.{None, Result, Ok, Err, refl, sym, ap, ◌∙◌}
 use Rattle.std.proofs.lemmas.List.{append-nil}
 use Rattle.std.proofs.lemmas.Bool.{both_ways}
 use Rattle.react_core.specs.Outer.{Keeps}
 use Rattle.react_core.specs.Outer as part
-use Rattle.react_core.specs.Told.{Counted, Rose, dial_told, lookup_told, nonce_told, output_told}
+use Rattle.react_core.specs.Told.{Counted, dial_told, lookup_told, nonce_told, output_told}
 use Rattle.react_core.specs.declared.outside.Event.{Event}
 use Rattle.react_core.specs.declared.outside.Event.TheVariants as event
 use Rattle.react_core.specs.declared.outside.Question.{Question}
@@ -26,7 +26,7 @@ use Rattle.bus_scene.specs.Plays.{peer_eq, peers_eq, dial_eq}
 use Rattle.bus_scene.specs.Cursors.{left, script_of, rest_of, Plays, passes_in, peers_in, nonce_in, output_in}
 use Rattle.bus_scene.proofs.PlayLemmas.{plays_on, only_if-true, bool_eq-refl, bytes_eq-refl}
 use Rattle.bus_scene.proofs.FaultLemmas.{count_same, count_rose, poller_same, wires_same, other_wire, counted_rose}
-use Rattle.bus_scene.proofs.FaultLemmas.{counted_each, all_counted, moment_same, keeps_none}
+use Rattle.bus_scene.proofs.FaultLemmas.{all_counted, moment_same, keeps_none}
 
 -- ---- the answer that is given
 

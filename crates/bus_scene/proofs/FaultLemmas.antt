@@ -1,6 +1,6 @@
 -- What one more event does to the counts of faults.
 use Rattle.std.proofs.Common.{◌≡◌, ◌≢◌, ℕ, ◌+◌, Bool, true, false, cond, List, [], ◌∷◌, ◌++◌, refl, sym, subst, ap}
-use Rattle.std.proofs.Common.{◌∙◌, arith, eq-eqb, Option, Some, None, Result, Ok, Err, length, take, inr}
+use Rattle.std.proofs.Common.{◌∙◌, arith, eq-eqb, Option, Some, Result, Ok, Err, length, take, inr}
 use Rattle.std.specs.Prelude.{count_by, ◌==◌}
 use Rattle.std.proofs.Math.Path.{fun_ext}
 use Rattle.std.proofs.lemmas.List.{append-nil}

@@ -1,9 +1,9 @@
 -- A record that follows a script with some rooms follows it with one more wait's: `follows-lent`, `follows-each`.
-use Rattle.std.proofs.Common.{◌≡◌, ◌⊎◌, ℕ, Bool, true, false, ◌&&◌, List, [], ◌∷◌, ◌++◌, length, drop, Option, Some}
+use Rattle.std.proofs.Common.{◌≡◌, ℕ, Bool, true, false, ◌&&◌, List, [], ◌∷◌, ◌++◌, length, drop, Option, Some}
 use Rattle.std.proofs.Common.{None, refl, sym, ap, ◌∙◌, subst, inl, inr}
 use Rattle.std.specs.Prelude.{◌==◌, is_some, unwrap_or}
 use Rattle.std.proofs.lemmas.Bool.{true≢false}
-use Rattle.react_core.specs.Outer.{with_room, lent, LentRoom}
+use Rattle.react_core.specs.Outer.{with_room, LentRoom}
 use Rattle.react_core.specs.declared.outside.Event.{Event}
 use Rattle.react_core.specs.declared.outside.Event.TheVariants as event
 use Rattle.react_core.specs.declared.outside.Rooms.{Rooms}
@@ -13,7 +13,7 @@ use Rattle.react_core.specs.declared.outside.WaitAnswer.TheVariants as wait_answ
 use Rattle.bus_script.specs.declared.line.ScriptWait.{ScriptWait}
 use Rattle.bus_script.specs.declared.line.ScriptWait.TheVariants as script_wait
 use Rattle.bus_scene.specs.Queues.{Queues, next_answer}
-use Rattle.bus_scene.specs.Plays.{next, next_of, played, played_from, only_if, is_wait_given, is_filled, Follows}
+use Rattle.bus_scene.specs.Plays.{next, played, played_from, only_if, is_wait_given, is_filled, Follows}
 use Rattle.bus_scene.specs.Faultless.{only_if-so, both-left, both-right, played_from-none}
 
 -- any front fills rooms that differed

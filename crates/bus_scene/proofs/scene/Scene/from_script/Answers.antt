@@ -1,4 +1,3 @@
-use Rattle.std.proofs.Common.{arith}
 use Rattle.std.proofs.lemmas.List.Sums.{list_all-from_AllPass}
 use Rattle.bus_session.specs.Sessions.{is_built}
 use Rattle.bus_scene.proofs.ReadingLemmas.{sessions_few}
