@@ -19,6 +19,8 @@ abbrev pub dial_event : ℕ → Question → Option Opened → Event
 dial_event wire asked (Some opened) = event.Dial wire asked (dial_answer.Opened opened.passes)
 dial_event wire asked None = event.Dial wire asked dial_answer.Failed
 
-abbrev pub DialTold : {E : Type 0} → Session → ℕ → Result (Option Opened) E → Option (List Event) → Option (List Event) → Type 0
-DialTold s wire (Ok opened) before after = (asked : Question) × AsksFirst s asked × (after ≡ told before (dial_event wire asked opened ∷ []))
+abbrev pub DialTold : {E : Type 0} → Session → ℕ → Result (Option Opened) E → Option (List Event) →
+    Option (List Event) → Type 0
+DialTold s wire (Ok opened) before after =
+    (asked : Question) × AsksFirst s asked × (after ≡ told before (dial_event wire asked opened ∷ []))
 DialTold s wire (Err e) before after = after ≡ told before []

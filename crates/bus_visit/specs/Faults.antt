@@ -5,13 +5,11 @@ use Rattle.react_core.specs.Told.{Rose}
 use Rattle.bus_session.specs.declared.ended.Ending.{Ending}
 use Rattle.bus_session.specs.declared.ended.Ending.TheVariants as ending
 use Rattle.react_core.specs.declared.outside.Opened.{Opened}
-use Rattle.bus_visit.specs.declared.visiting.PollEnd.{PollEnd}
-use Rattle.bus_visit.specs.declared.visiting.PollEnd.TheVariants as poll_end
 use Rattle.bus_visit.specs.declared.visiting.Slot.{Slot}
 use Rattle.bus_visit.specs.declared.visiting.Slot.TheVariants as slot
 
--- The ending of a wire's session is Connection only where the count of its dialling rose, and Io only where that or the count of
--- the wire itself did.
+-- The ending of a wire's session is Connection only where the count of its dialling rose, and Io only where that or
+-- the count of the wire itself did.
 abbrev pub EndingCounted : {Origin : Type 0} → ℕ → Ending → Outer Origin → Outer Origin → Type 0
 EndingCounted wire (ending.Open guid cap_unix_fd) before after = Unit {0}
 EndingCounted wire ending.Unsupported before after = Unit {0}
@@ -30,11 +28,10 @@ DialCounted (Ok None) before now = Rose before now
 DialCounted (Ok (Some opened)) before now = now ≡ before
 DialCounted (Err e) before now = now ≡ before
 
--- how a poll ended
-abbrev pub PollEndCounted : {Origin : Type 0} → ℕ → PollEnd → Outer Origin → Outer Origin → Type 0
-PollEndCounted wire (poll_end.Over e) before after = EndingCounted wire e before after
-PollEndCounted wire poll_end.Again before after = Unit {0}
-PollEndCounted wire poll_end.Asleep before after = Unit {0}
+-- the ending that came, if one did
+abbrev pub OverCounted : {Origin : Type 0} → ℕ → Option Ending → Outer Origin → Outer Origin → Type 0
+OverCounted wire None before after = Unit {0}
+OverCounted wire (Some e) before after = EndingCounted wire e before after
 
 abbrev pub SlotCounted : {Origin : Type 0} → ℕ → Slot → Outer Origin → Outer Origin → Type 0
 SlotCounted wire (slot.Ended e) before after = EndingCounted wire e.ending before after

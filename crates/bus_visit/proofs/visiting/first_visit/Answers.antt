@@ -9,7 +9,8 @@ pub returns-in-Some-clause-visited : goal.returns-in-Some-clause-visited
 returns-in-Some-clause-visited g c =
     if-ok c.visit_opened.result
     (λ slot registers.
-    first-dialled c.args.session.now c.args.wire c.in_ok-opened.field-0 c.in-Some.opened _ _ _ c.args.reactor.now.core c.visit_opened.new.reactor.core slot c.in_ok-opened.ensures.told c.in-Some.is registers)
+    first-dialled c.args.session.now c.args.wire c.in_ok-opened.field-0 c.in-Some.opened _ _ _ c.args.reactor.now.core
+    c.visit_opened.new.reactor.core slot c.in_ok-opened.ensures.told c.in-Some.is registers)
     c.visit_opened.ensures.visited
 
 pub returns-in-Some-clause-refused : goal.returns-in-Some-clause-refused
@@ -36,4 +37,6 @@ pub returns-in-None-clause-keeps : goal.returns-in-None-clause-keeps
 returns-in-None-clause-keeps g c = keeps-dialled c.args.wire c.dial.result _ _ c.dial.ensures.keeps c.dial.ensures.dialled
 
 pub returns-in-None-clause-counted : goal.returns-in-None-clause-counted
-returns-in-None-clause-counted g c = unconnected-counted c.args.wire c.in_ok-opened.field-0 c.unconnected.result _ _ c.in-None.is (ap (λ e. e.ending) c.unconnected.ensures.value) c.in_ok-opened.ensures.dialled
+returns-in-None-clause-counted g c =
+    unconnected-counted c.args.wire c.in_ok-opened.field-0 c.unconnected.result _ _ c.in-None.is
+    (ap (λ e. e.ending) c.unconnected.ensures.value) c.in_ok-opened.ensures.dialled
