@@ -1,5 +1,7 @@
 -- The call under way: a round, the visits of those that it makes due, and all rounds.
-use Rattle.std.proofs.Common.{◌≡◌, ◌≢◌, ◌<◌, ◌⊎◌, inl, inr, ℕ, ◌+◌, Bool, true, false, ◌&&◌, ◌==◌, List, [], ◌∷◌, ◌++◌, length, take, map, Option, Some, None, Result, Ok, Err, slice_get, refl, sym, ◌∙◌, ap, subst, arith}
+use Rattle.std.proofs.Common.{◌≡◌, ◌≢◌, ◌<◌, ◌⊎◌, inl, inr, ℕ, ◌+◌, Bool, true, false, ◌&&◌, ◌==◌, List, [], ◌∷◌}
+use Rattle.std.proofs.Common.{◌++◌, length, take, map, Option, Some, None, Result, Ok, Err, slice_get, refl, sym, ◌∙◌}
+use Rattle.std.proofs.Common.{ap, subst, arith}
 use Rattle.std.specs.List.{list_all}
 use Rattle.std.proofs.lemmas.Bool.{both_ways, eq-eqb, or_left, or_right, or_cases, and_parts, and_from}
 use Rattle.react_core.specs.declared.outside.Event.{Event}
@@ -94,7 +96,8 @@ first-wire [] some = absurd (some refl)
 first-wire (s ∷ sources) some = (s.1.wire, or_left (s.1.wire == s.1.wire) (has_wire s.1.wire (tags sources)) (eq-eqb s.1.wire s.1.wire refl))
 
 -- where a source is left, a session sleeps
-some-sleeper : (sessions : List Session) (slots : List Slot) (past : Pieces) (core : Core) → AllBuilt sessions → length slots ≡ length sessions → Owned slots (tags core.sources) → Shows past (map shown core.sources) →
+some-sleeper : (sessions : List Session) (slots : List Slot) (past : Pieces) (core : Core) → AllBuilt sessions →
+    length slots ≡ length sessions → Owned slots (tags core.sources) → Shows past (map shown core.sources) →
     AllStand 0 [] (take (length slots) sessions) slots past → core.sources ≢ [] → sleepers sessions past ≢ []
 some-sleeper sessions slots past core built len owned shows stands some =
     let w = first-wire core.sources some in
@@ -113,7 +116,9 @@ no-sleeper sessions slots past core len shows stands none =
 due-has : (sources : List (ℕ × Source)) (reports : List Report) (w : ℕ) → due_at (map shown sources) reports w ≡ true → has_wire w (tags sources) ≡ true
 due-has [] reports w due = due
 due-has (s ∷ sources) reports w due = has-go (or_cases ((s.1.wire == w) && is_due reports (shown s)) (due_at (map shown sources) reports w) due) (due-has sources reports w) where
-  has-go : (((s.1.wire == w) && is_due reports (shown s)) ≡ true) ⊎ (due_at (map shown sources) reports w ≡ true) → (due_at (map shown sources) reports w ≡ true → has_wire w (tags sources) ≡ true) → has_wire w (tags (s ∷ sources)) ≡ true
+  has-go : (((s.1.wire == w) && is_due reports (shown s)) ≡ true) ⊎ (due_at (map shown sources) reports w ≡ true) →
+      (due_at (map shown sources) reports w ≡ true → has_wire w (tags sources) ≡ true) →
+      has_wire w (tags (s ∷ sources)) ≡ true
   has-go (inl a) ih = or_left (s.1.wire == w) (has_wire w (tags sources)) (and_parts (s.1.wire == w) (is_due reports (shown s)) a).0
   has-go (inr a) ih = or_right (s.1.wire == w) (has_wire w (tags sources)) (ih a)
 
@@ -136,8 +141,11 @@ round-moves w past p woken due dir (inl up) = on (reports dir w past p) refl (wa
   on b is (inl stays) = inl stays
   on b is (inr rep) = inr (due (woken-by dir w past p up (is ∙ rep)))
 
-round-more : (sessions : List Session) (rounds n : ℕ) (begin : Core) (before r0 r1 : Option (List Event)) (old new : Core) (slots : List Slot) (woken : List ℕ) (r : Round) (past : Pieces) → AllBuilt sessions →
-    length slots ≡ length sessions → Owned slots (tags old.sources) → n < rounds → old.sources ≢ [] → rounds_in past ≡ n → CallStands sessions rounds [] begin before r0 old slots past → Rounded r0 r1 old new woken r →
+round-more : (sessions : List Session) (rounds n : ℕ) (begin : Core) (before r0 r1 : Option (List Event))
+    (old new : Core) (slots : List Slot) (woken : List ℕ) (r : Round) (past : Pieces) → AllBuilt sessions →
+    length slots ≡ length sessions → Owned slots (tags old.sources) → n < rounds → old.sources ≢ [] →
+    rounds_in past ≡ n → CallStands sessions rounds [] begin before r0 old slots past →
+    Rounded r0 r1 old new woken r →
     CallStandsAfter sessions rounds woken (n + 1) begin before r1 new slots
 round-more sessions rounds n begin before r0 r1 old new slots woken r past built len owned left some count g x =
     let held : List Held = map shown old.sources in
@@ -154,7 +162,8 @@ round-more sessions rounds n begin before r0 r1 old new slots woken r past built
       ap (λ k. k + 1) count,
       record {
         gained = x.gained ∙ (ap (told r0) (sym same) ∙ (ap (λ y. told y (pieces.events_of (round p))) g.gained ∙ told-told before (pieces.told past) (pieces.events_of (round p))));
-        run = turned past p woken g.run (all-rest sessions slots past held len built g.shows g.stands) (some-sleeper sessions slots past old built len owned g.shows g.stands some) (omega (arith, count, left))
+        run = turned past p woken g.run (all-rest sessions slots past held len built g.shows g.stands)
+            (some-sleeper sessions slots past old built len owned g.shows g.stands some) (omega (arith, count, left))
             (rounds-are-rounds sessions past held p late g.shows refl x.form.1 x.form.0 (rearming-same past held answered g.shows))
             (due-wires-are-same sessions past held p woken late g.shows sleep x.due);
         shows = subst (Shows after) (sym (round-held r held) ∙ x.shows) (rounds-show past held p g.shows refl);
@@ -193,7 +202,8 @@ have-all (v ∷ wires) ts has = and_from (has_wire v ts) (list_all (λ x. has_wi
     (have-all wires ts (λ w is. has w (or_right (v == w) (is_in w wires) is)))
 
 -- those that a round makes due are registered
-pub round-wires : (r0 r1 : Option (List Event)) (old new : Core) (woken : List ℕ) → (r : Round) × Rounded r0 r1 old new woken r → tags new.sources ≡ tags old.sources → HaveWires woken (tags new.sources)
+pub round-wires : (r0 r1 : Option (List Event)) (old new : Core) (woken : List ℕ) → (r : Round) ×
+    Rounded r0 r1 old new woken r → tags new.sources ≡ tags old.sources → HaveWires woken (tags new.sources)
 round-wires r0 r1 old new woken (r, x) same =
     have-all woken (tags new.sources) (λ w is. ap (has_wire w) same ∙ due-has old.sources (reports_of r.answer) w (sym (x.due.each w) ∙ is))
 
@@ -212,7 +222,8 @@ pub rounds-more : (rounds n : ℕ) (r0 r1 r2 : Option (List Event)) (old mid new
 rounds-more rounds n r0 r1 r2 old mid new slots slots' slots'' same left some went goes = λ sessions begin before built len w.
     goes sessions rounds n begin before built (same ∙ len) left some (went sessions begin before built len w)
 
-rested : (sessions : List Session) (rounds n : ℕ) (begin : Core) (before after : Option (List Event)) (core : Core) (slots : List Slot) → AllBuilt sessions → length slots ≡ length sessions → (n ≡ rounds) ⊎ (core.sources ≡ []) →
+rested : (sessions : List Session) (rounds n : ℕ) (begin : Core) (before after : Option (List Event)) (core : Core)
+    (slots : List Slot) → AllBuilt sessions → length slots ≡ length sessions → (n ≡ rounds) ⊎ (core.sources ≡ []) →
     CallStandsAfter sessions rounds [] n begin before after core slots → (past : Pieces) × CallSettled sessions rounds begin before after core slots past
 rested sessions rounds n begin before after core slots built len (inl all) (past, count, g) =
     (past, record { going = g; rest = all-rest sessions slots past (map shown core.sources) len built g.shows g.stands; spent = inr (count ∙ all) })
@@ -224,7 +235,8 @@ pub rounds-end : (rounds n : ℕ) (r0 r1 : Option (List Event)) (old new : Core)
 rounds-end rounds n r0 r1 old new slots slots' same done went = λ sessions begin before built len w.
     rested sessions rounds n begin before r1 new slots' built (same ∙ len) done (went sessions begin before built len w)
 
-halted : (sessions : List Session) (rounds n : ℕ) (begin : Core) (before after : Option (List Event)) (core : Core) (slots : List Slot) → AllBuilt sessions → length slots ≡ length sessions → Owned slots (tags core.sources) →
+halted : (sessions : List Session) (rounds n : ℕ) (begin : Core) (before after : Option (List Event)) (core : Core)
+    (slots : List Slot) → AllBuilt sessions → length slots ≡ length sessions → Owned slots (tags core.sources) →
     n < rounds → core.sources ≢ [] → CallStandsAfter sessions rounds [] n begin before after core slots → (past : Pieces) × CallHalted sessions rounds begin before after core slots past
 halted sessions rounds n begin before after core slots built len owned left some (past, count, g) = (
   past,
@@ -237,8 +249,11 @@ halted sessions rounds n begin before after core slots built len owned left some
 )
 
 -- where the round's number ran out, the call stands where it stood
-pub rounds-stuck : {T : Type 0} (result : Result T OpenError) (rounds n : ℕ) (r0 r1 r2 : Option (List Event)) (old : Core) (mid new : ReactorState) (slots slots' slots'' : List Slot) → length slots' ≡ length slots →
-    Owned slots' (tags mid.core.sources) → n < rounds → mid.core.sources ≢ [] → RoundsKeepCall rounds n r0 r1 old mid.core slots slots' → OnExhausted result ((new ≡ mid) × (r2 ≡ r1) × (slots'' ≡ slots')) →
+pub rounds-stuck : {T : Type 0} (result : Result T OpenError) (rounds n : ℕ) (r0 r1 r2 : Option (List Event))
+    (old : Core) (mid new : ReactorState) (slots slots' slots'' : List Slot) → length slots' ≡ length slots →
+    Owned slots' (tags mid.core.sources) → n < rounds → mid.core.sources ≢ [] →
+    RoundsKeepCall rounds n r0 r1 old mid.core slots slots' →
+    OnExhausted result ((new ≡ mid) × (r2 ≡ r1) × (slots'' ≡ slots')) →
     Stuck result rounds r0 r2 old new.core slots slots''
 rounds-stuck (Ok v) rounds n r0 r1 r2 old mid new slots slots' slots'' same owned left some went halts = tt
 rounds-stuck (Err open_err.OutOfMemory) rounds n r0 r1 r2 old mid new slots slots' slots'' same owned left some went halts = tt
@@ -247,4 +262,7 @@ rounds-stuck (Err (open_err.Exhausted counter value)) rounds n r0 r1 r2 old mid 
     let A : ReactorState → Type 0 = λ x. (past : Pieces) × CallHalted sessions rounds begin before r2 x.core slots'' past in
     let B : Option (List Event) → Type 0 = λ x. (past : Pieces) × CallHalted sessions rounds begin before x mid.core slots'' past in
     let C : List Slot → Type 0 = λ x. (past : Pieces) × CallHalted sessions rounds begin before r1 mid.core x past in
-    subst A (sym core) (subst B (sym told') (subst C (sym still) (halted sessions rounds n begin before r1 mid.core slots' built (same ∙ len) owned left some (went sessions begin before built len w))))
+    subst A (sym core)
+    (subst B (sym told')
+    (subst C (sym still) (halted sessions rounds n begin before r1 mid.core slots' built (same ∙ len) owned left some
+    (went sessions begin before built len w))))

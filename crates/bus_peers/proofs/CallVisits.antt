@@ -1,5 +1,7 @@
 -- The call under way: its start, a first visit, and a visit of a session that sleeps.
-use Rattle.std.proofs.Common.{◌≡◌, ◌≢◌, ◌≤◌, ◌<◌, ◌^◌, inl, inr, ℕ, ◌+◌, ◌-◌, suc, min, true, false, ◌==◌, List, [], ◌∷◌, ◌++◌, length, take, map, Option, Some, slice_get, slice_set, refl, sym, ◌∙◌, ap, subst, arith}
+use Rattle.std.proofs.Common.{◌≡◌, ◌≢◌, ◌≤◌, ◌<◌, ◌^◌, inl, inr, ℕ, ◌+◌, ◌-◌, suc, min, true, false, ◌==◌, List, []}
+use Rattle.std.proofs.Common.{◌∷◌, ◌++◌, length, take, map, Option, Some, slice_get, slice_set, refl, sym, ◌∙◌, ap}
+use Rattle.std.proofs.Common.{subst, arith}
 use Rattle.std.specs.Prelude.{count_by}
 use Rattle.std.proofs.lemmas.Bool.{ne_eqb}
 use Rattle.std.proofs.lemmas.Option.{none-some, slice_get_within, get_or_from_slice_get}
@@ -97,7 +99,9 @@ visit-new w wire past v ne none new = record {
 }
 
 -- a visit, up to where the slots stand
-visit-more : (sessions : List Session) (rounds n wire : ℕ) (pending : List ℕ) (begin : Core) (before r0 r1 : Option (List Event)) (old new : Core) (slots slots' : List Slot) (past : Pieces) (v : List Event) (s : Session) (c : Slot) →
+visit-more : (sessions : List Session) (rounds n wire : ℕ) (pending : List ℕ) (begin : Core)
+    (before r0 r1 : Option (List Event)) (old new : Core) (slots slots' : List Slot) (past : Pieces) (v : List Event)
+    (s : Session) (c : Slot) →
     slice_get sessions wire ≡ Some s → rounds_in past ≡ n → AllStand 0 pending (take (length slots') sessions) slots' (past ▸ visit wire v) → length slots ≤ length slots' → wire < length slots' →
     CallStands sessions rounds (wire ∷ pending) begin before r0 old slots past → VisitInRecord s wire past r0 r1 old new c v → CallStandsAfter sessions rounds pending n begin before r1 new slots'
 visit-more sessions rounds n wire pending begin before r0 r1 old new slots slots' past v s c at count stands more within g x = (
@@ -119,7 +123,9 @@ visit-more sessions rounds n wire pending begin before r0 r1 old new slots slots
 
 -- ---- a visit of a session that sleeps
 
-again-more : (sessions : List Session) (rounds n wire : ℕ) (pending : List ℕ) (begin : Core) (before r0 r1 : Option (List Event)) (old new : Core) (slots : List Slot) (past : Pieces) (s : Session) (d c : Slot) →
+again-more : (sessions : List Session) (rounds n wire : ℕ) (pending : List ℕ) (begin : Core)
+    (before r0 r1 : Option (List Event)) (old new : Core) (slots : List Slot) (past : Pieces) (s : Session)
+    (d c : Slot) →
     slice_get slots wire ≡ Some d → slice_get (take (length slots) sessions) wire ≡ Some s → rounds_in past ≡ n → CallStands sessions rounds (wire ∷ pending) begin before r0 old slots past →
     (v : List Event) × VisitInRecord s wire past r0 r1 old new c v → CallStandsAfter sessions rounds pending n begin before r1 new (slice_set slots wire c)
 again-more sessions rounds n wire pending begin before r0 r1 old new slots past s d c was at count g (v, x) =
@@ -131,15 +137,24 @@ again-more sessions rounds n wire pending begin before r0 r1 old new slots past 
     (visit-stands s wire pending past v r0 r1 old new c x) (x.stands pending) g.stands))
     (omega (arith, len)) (omega (arith, len, within)) g x
 
-again-at : (sessions : List Session) (rounds n wire : ℕ) (pending : List ℕ) (begin : Core) (before r0 r1 : Option (List Event)) (old new : Core) (slots : List Slot) (past : Pieces) (sl : Sleeper) (c : Slot) → AllBuilt sessions →
-    slice_get slots wire ≡ Some (slot.Asleep sl) → MakesRegisteredVisit wire sl.key r0 r1 old new sl.client c → rounds_in past ≡ n → CallStands sessions rounds (wire ∷ pending) begin before r0 old slots past →
-    (s : Session) × (slice_get (take (length slots) sessions) wire ≡ Some s) × Stands s wire (wire ∷ pending) past (slot.Asleep sl) → CallStandsAfter sessions rounds pending n begin before r1 new (slice_set slots wire c)
+again-at : (sessions : List Session) (rounds n wire : ℕ) (pending : List ℕ) (begin : Core)
+    (before r0 r1 : Option (List Event)) (old new : Core) (slots : List Slot) (past : Pieces) (sl : Sleeper)
+    (c : Slot) → AllBuilt sessions →
+    slice_get slots wire ≡ Some (slot.Asleep sl) → MakesRegisteredVisit wire sl.key r0 r1 old new sl.client c →
+    rounds_in past ≡ n → CallStands sessions rounds (wire ∷ pending) begin before r0 old slots past →
+    (s : Session) × (slice_get (take (length slots) sessions) wire ≡ Some s) ×
+    Stands s wire (wire ∷ pending) past (slot.Asleep sl) →
+    CallStandsAfter sessions rounds pending n begin before r1 new (slice_set slots wire c)
 again-at sessions rounds n wire pending begin before r0 r1 old new slots past sl c built was stays count g (s, at, is) =
     again-more sessions rounds n wire pending begin before r0 r1 old new slots past s (slot.Asleep sl) c was at count g
     (goes-again s wire past r0 r1 old new sl (wire ∷ pending) c (test-at is_built sessions wire s built (get-take (length slots) wire sessions s at)) g.shows is stays)
 
-again-from : (sessions : List Session) (rounds n wire : ℕ) (pending : List ℕ) (begin : Core) (before r0 r1 : Option (List Event)) (old new : Core) (slots : List Slot) (sl : Sleeper) (c : Slot) → AllBuilt sessions →
-    slice_get slots wire ≡ Some (slot.Asleep sl) → MakesRegisteredVisit wire sl.key r0 r1 old new sl.client c → CallStandsAfter sessions rounds (wire ∷ pending) n begin before r0 old slots → CallStandsAfter sessions rounds pending n begin before r1 new (slice_set slots wire c)
+again-from : (sessions : List Session) (rounds n wire : ℕ) (pending : List ℕ) (begin : Core)
+    (before r0 r1 : Option (List Event)) (old new : Core) (slots : List Slot) (sl : Sleeper) (c : Slot) →
+    AllBuilt sessions →
+    slice_get slots wire ≡ Some (slot.Asleep sl) → MakesRegisteredVisit wire sl.key r0 r1 old new sl.client c →
+    CallStandsAfter sessions rounds (wire ∷ pending) n begin before r0 old slots →
+    CallStandsAfter sessions rounds pending n begin before r1 new (slice_set slots wire c)
 again-from sessions rounds n wire pending begin before r0 r1 old new slots sl c built was stays (past, count, g) =
     again-at sessions rounds n wire pending begin before r0 r1 old new slots past sl c built was stays count g
     (stand-at 0 wire wire (wire ∷ pending) (take (length slots) sessions) slots past (slot.Asleep sl) (omega arith) was g.stands)
@@ -154,7 +169,9 @@ going-again wire pending r0 r1 old new slots sl c was stays = λ sessions rounds
 counting-step : (n i : ℕ) → i < n → counting (n - i) i ≡ i ∷ counting (n - (i + 1)) (i + 1)
 counting-step n i lt = let e : n - i ≡ suc (n - (i + 1)) = omega (arith, lt) in ap (λ k. counting k i) e
 
-first-more : (sessions : List Session) (rounds wire : ℕ) (pending : List ℕ) (begin : Core) (before r0 r1 : Option (List Event)) (old new : Core) (slots : List Slot) (past : Pieces) (s : Session) (c : Slot) →
+first-more : (sessions : List Session) (rounds wire : ℕ) (pending : List ℕ) (begin : Core)
+    (before r0 r1 : Option (List Event)) (old new : Core) (slots : List Slot) (past : Pieces) (s : Session)
+    (c : Slot) →
     wire ≡ length slots → slice_get sessions wire ≡ Some s → rounds_in past ≡ 0 → CallStands sessions rounds (wire ∷ pending) begin before r0 old slots past →
     (v : List Event) × VisitInRecord s wire past r0 r1 old new c v → CallStandsAfter sessions rounds pending 0 begin before r1 new (slots ++ c ∷ [])
 first-more sessions rounds wire pending begin before r0 r1 old new slots past s c here at count g (v, x) =
@@ -171,7 +188,9 @@ first-more sessions rounds wire pending begin before r0 r1 old new slots past s 
     (subst A (sym place) (stand-more 0 wire pending (take (length slots) sessions) slots after s c (omega (arith, here)) moved (x.stands pending)))
     (omega (arith, len)) (omega (arith, len, here)) g x
 
-first-at : (sessions : List Session) (rounds wire : ℕ) (pending : List ℕ) (begin : Core) (before r0 r1 : Option (List Event)) (old new : Core) (slots : List Slot) (s : Session) (c : Slot) → is_built s ≡ true →
+first-at : (sessions : List Session) (rounds wire : ℕ) (pending : List ℕ) (begin : Core)
+    (before r0 r1 : Option (List Event)) (old new : Core) (slots : List Slot) (s : Session) (c : Slot) →
+    is_built s ≡ true →
     wire ≡ length slots → slice_get sessions wire ≡ Some s → FirstVisits s wire r0 r1 old new c →
     CallStandsAfter sessions rounds (wire ∷ pending) 0 begin before r0 old slots → CallStandsAfter sessions rounds pending 0 begin before r1 new (slots ++ c ∷ [])
 first-at sessions rounds wire pending begin before r0 r1 old new slots s c built here at visits (past, count, g) =

@@ -1,5 +1,7 @@
 -- The sources at the end: each session's is taken out in turn, and what that tells is the closing.
-use Rattle.std.proofs.Common.{◌≡◌, ◌≢◌, ◌≤◌, ◌<◌, ℕ, ◌+◌, zero, suc, Bool, true, false, nat_lt, ◌==◌, List, [], ◌∷◌, ◌++◌, length, map, Option, Some, refl, sym, ◌∙◌, ap, subst, arith, append_assoc, slice_index_or}
+use Rattle.std.proofs.Common.{◌≡◌, ◌≢◌, ◌≤◌, ◌<◌, ℕ, ◌+◌, zero, suc, Bool, true, false, nat_lt, ◌==◌, List, [], ◌∷◌}
+use Rattle.std.proofs.Common.{◌++◌, length, map, Option, Some, refl, sym, ◌∙◌, ap, subst, arith, append_assoc}
+use Rattle.std.proofs.Common.{slice_index_or}
 use Rattle.std.specs.Prelude.{Result, Ok, Err, OnOk}
 use Rattle.std.specs.Result.{result_and}
 use Rattle.std.specs.List.{list_all}
@@ -47,7 +49,9 @@ closing-next i held =
     let place : 0 + i ≡ i = omega arith in
     ap (λ k. closing k 0 held) more ∙ (closing-more i 0 held ∙ ap (λ k. closing i 0 held ++ removals_of held k) place)
 
-no_go : (x : ℕ × Source) (sources : List (ℕ × Source)) (wire : ℕ) (b : Bool) → (x.1.wire == wire) ≡ b → has_wire wire (tags (x ∷ sources)) ≡ false → (has_wire wire (tags sources) ≡ false → removals_of (map shown sources) wire ≡ []) →
+no_go : (x : ℕ × Source) (sources : List (ℕ × Source)) (wire : ℕ) (b : Bool) → (x.1.wire == wire) ≡ b →
+    has_wire wire (tags (x ∷ sources)) ≡ false →
+    (has_wire wire (tags sources) ≡ false → removals_of (map shown sources) wire ≡ []) →
     removals_of (map shown (x ∷ sources)) wire ≡ []
 no_go x sources wire true e none ih = let wrong : true ≡ false = rw e at none in cc
 no_go x sources wire false e none ih = rw e (ih (rw e at none))
@@ -134,7 +138,9 @@ left-all i n old sources le l =
 -- ---- one slot
 
 -- the sources after a slot's is taken out
-pub left-slot : (i n : ℕ) (old now : Core) (c : Slot) → Owns i c (tags old.sources) → Left i n (tags old.sources) (tags now.sources) → Left (i + 1) n (tags old.sources) (tags (without_slot c now).sources)
+pub left-slot : (i n : ℕ) (old now : Core) (c : Slot) → Owns i c (tags old.sources) →
+    Left i n (tags old.sources) (tags now.sources) →
+    Left (i + 1) n (tags old.sources) (tags (without_slot c now).sources)
 left-slot i n old now (slot.Ended e) owns l = left-free i n (tags old.sources) (tags now.sources) owns l
 left-slot i n old now (slot.Asleep s) owns l =
     let L : Tags → Type 0 = λ ts. Left (i + 1) n (tags old.sources) ts in
@@ -150,7 +156,8 @@ removal-found : (i key : ℕ) (o : Option Source) → (s : Source) × (o ≡ Som
 removal-found i key o (s, at, own) = ap (λ x. removal_of x key) at ∙ ap (λ w. event.Delete w key true ∷ []) own
 
 -- it tells what the closing has for its wire
-pub removal-slot : (i n : ℕ) (old now : Core) (c : Slot) → Single (tags old.sources) → Owns i c (tags old.sources) → Left i n (tags old.sources) (tags now.sources) → removal_told c now ≡ removals_of (map shown old.sources) i
+pub removal-slot : (i n : ℕ) (old now : Core) (c : Slot) → Single (tags old.sources) → Owns i c (tags old.sources) →
+    Left i n (tags old.sources) (tags now.sources) → removal_told c now ≡ removals_of (map shown old.sources) i
 removal-slot i n old now (slot.Ended e) single owns l = sym (removals-none old.sources i owns)
 removal-slot i n old now (slot.Asleep s) single owns l =
     removal-found i s.key (source_of now.sources s.key) (tag-source now.sources s.key i (l.kept s.key i (omega arith) owns)) ∙ sym (removals-one old.sources s.key i single owns)
@@ -168,7 +175,8 @@ told_slot (Ok v) (Err e) i r0 r1 r2 held gone is before after = tt
 told_slot (Err e) removed' i r0 r1 r2 held gone is before after = tt
 
 -- told so far, unless a removal was refused
-pub told-slot : {T : Type 0} (answer removed' both : Result T OpenError) (i : ℕ) (r0 r1 r2 : Option (List Event)) (held : List Held) (gone : List Event) → both ≡ result_and answer removed' → gone ≡ removals_of held i →
+pub told-slot : {T : Type 0} (answer removed' both : Result T OpenError) (i : ℕ) (r0 r1 r2 : Option (List Event))
+    (held : List Held) (gone : List Event) → both ≡ result_and answer removed' → gone ≡ removals_of held i →
     OnOk answer (r1 ≡ told r0 (closing i 0 held)) → OnOk removed' (r2 ≡ told r1 gone) → OnOk both (r2 ≡ told r0 (closing (i + 1) 0 held))
 told-slot {T} answer removed' both i r0 r1 r2 held gone is same before after =
     let P : Result T OpenError → Type 0 = λ r. OnOk r (r2 ≡ told r0 (closing (i + 1) 0 held)) in
@@ -192,7 +200,9 @@ counted_both (Err open_err.Poller) removed' n0 n1 n2 first second = let up : n1 
 counted_both (Err open_err.OutOfMemory) removed' n0 n1 n2 first second = let up : n1 ≤ n2 = no_less removed' n1 n2 second in omega (arith, first, up)
 counted_both (Err (open_err.Exhausted c value)) removed' n0 n1 n2 first second = first
 
-pub counted-both : {T : Type 0} (answer removed' both : Result T OpenError) (n0 n1 n2 : ℕ) → both ≡ result_and answer removed' → VisitsCounted answer n0 n1 → VisitsCounted removed' n1 n2 → VisitsCounted both n0 n2
+pub counted-both : {T : Type 0} (answer removed' both : Result T OpenError) (n0 n1 n2 : ℕ) →
+    both ≡ result_and answer removed' → VisitsCounted answer n0 n1 → VisitsCounted removed' n1 n2 →
+    VisitsCounted both n0 n2
 counted-both {T} answer removed' both n0 n1 n2 is first second =
     let P : Result T OpenError → Type 0 = λ r. VisitsCounted r n0 n2 in
     subst P (sym is) (counted_both answer removed' n0 n1 n2 first second)
@@ -260,7 +270,9 @@ ends_next slots left c endeds e wire ends so = record {
   count = omega (arith, so.count);
 }
 
-pub ends-next : (slots before left : List Slot) (c : Slot) (endeds now : List Ended) (e : Ended) (wire : ℕ) → before ≡ c ∷ left → now ≡ endeds ++ e ∷ [] → EndsIn wire c e → EndsSo slots before endeds wire → EndsSo slots left now (wire + 1)
+pub ends-next : (slots before left : List Slot) (c : Slot) (endeds now : List Ended) (e : Ended) (wire : ℕ) →
+    before ≡ c ∷ left → now ≡ endeds ++ e ∷ [] → EndsIn wire c e → EndsSo slots before endeds wire →
+    EndsSo slots left now (wire + 1)
 ends-next slots before left c endeds now e wire is grown ends so =
     let P : List Slot → Type 0 = λ xs. EndsSo slots xs endeds wire in
     let Q : List Ended → Type 0 = λ es. EndsSo slots left es (wire + 1) in

@@ -58,7 +58,9 @@ module _ {Origin : Type 0} where
   all-append wire at [] s a b is all counted = let C : ℕ → Type 0 = λ w. SlotCounted w s a b in let here : at ≡ wire = omega (arith, is) in (subst C here counted, tt)
   all-append wire at (x ∷ slots) s a b is all counted = (all.0, all-append (wire + 1) at slots s a b (omega (arith, is)) all.1 counted)
 
-  pub all-more : (wire : ℕ) (slots : List Slot) (s : Slot) (a b c : Outer Origin) → wire ≡ length slots → NoneFell a b → Keeps (part.Visit wire) b c → AllCounted 0 slots a b → SlotCounted wire s b c → AllCounted 0 (slots ++ s ∷ []) a c
+  pub all-more : (wire : ℕ) (slots : List Slot) (s : Slot) (a b c : Outer Origin) → wire ≡ length slots →
+      NoneFell a b → Keeps (part.Visit wire) b c → AllCounted 0 slots a b → SlotCounted wire s b c →
+      AllCounted 0 (slots ++ s ∷ []) a c
   all-more wire slots s a b c is k l all counted =
       all-append 0 wire slots s a c (omega (arith, is)) (all-later 0 slots a b c (fell-visit wire b c l) all) (slot-within wire s a b c c (rises-all wire a b k) (rises-same wire c) counted)
 
@@ -70,7 +72,8 @@ module _ {Origin : Type 0} where
   -- a visit of this wire's session
   pub counts-set : (wire : ℕ) (slots : List Slot) (s : Slot) (a b : Outer Origin) → Keeps (part.Visit wire) a b → SlotCounted wire s a b → CountsOn slots (slice_set slots wire s) a b
   counts-set wire slots s a b k counted = λ start before all.
-      all-set 0 wire slots wire s start b (omega arith) (all-later 0 slots start a b (fell-visit wire a b k) all) (slot-within wire s start a b b (rises-all wire start a before) (rises-same wire b) counted)
+      all-set 0 wire slots wire s start b (omega arith) (all-later 0 slots start a b (fell-visit wire a b k) all)
+      (slot-within wire s start a b b (rises-all wire start a before) (rises-same wire b) counted)
 
   pub counts-same : (slots : List Slot) (a b : Outer Origin) → NoneFell a b → CountsOn slots slots a b
   counts-same slots a b k = λ start before all. all-later 0 slots start a b k all

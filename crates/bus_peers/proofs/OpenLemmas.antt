@@ -81,7 +81,8 @@ abbrev pub Answers : {T : Type 0} → (T → List Ended) → Result T OpenError 
 Answers items result sessions rounds r0 r1 old new =
     (r : List Event) × (r1 ≡ told r0 r) × IfOk result (λ v. Opened sessions rounds old new (items v) r) × RefusedWith sessions rounds old new result r
 
-answers-err : {T : Type 0} (items : T → List Ended) (result : Result T OpenError) (e : OpenError) (sessions : List Session) (rounds : ℕ) (r0 r1 : Option (List Event)) (old new : Core) (r : List Event) →
+answers-err : {T : Type 0} (items : T → List Ended) (result : Result T OpenError) (e : OpenError)
+    (sessions : List Session) (rounds : ℕ) (r0 r1 : Option (List Event)) (old new : Core) (r : List Event) →
     IsErrAnd result (λ x. x ≡ e) → r1 ≡ told r0 r → RefusedWith {T = T} sessions rounds old new (Err e) r → Answers items result sessions rounds r0 r1 old new
 answers-err items (Ok v) e sessions rounds r0 r1 old new r is gained refused = absurd is
 answers-err {T} items (Err x) e sessions rounds r0 r1 old new r is gained refused =
@@ -89,7 +90,8 @@ answers-err {T} items (Err x) e sessions rounds r0 r1 old new r is gained refuse
     (r, gained, tt, subst R (sym is) refused)
 
 -- there was no room for the slots
-pub answers-none : {T : Type 0} (items : T → List Ended) (result : Result T OpenError) (sessions : List Session) (rounds : ℕ) (r : Option (List Event)) (old : Core) → IsErrAnd result (λ x. x ≡ open_err.OutOfMemory) →
+pub answers-none : {T : Type 0} (items : T → List Ended) (result : Result T OpenError) (sessions : List Session)
+    (rounds : ℕ) (r : Option (List Event)) (old : Core) → IsErrAnd result (λ x. x ≡ open_err.OutOfMemory) →
     Answers items result sessions rounds r r old old
 answers-none items result sessions rounds r old is = answers-err items result open_err.OutOfMemory sessions rounds r r old old [] is (told-nothing r) tt
 
@@ -109,7 +111,9 @@ ticks : {sessions : List Session} {rounds : ℕ} {pending : List ℕ} {begin : C
 ticks {begin = begin} g = g.ticker ∙ ap (λ n. begin.ticker + n) (sym g.counted)
 
 -- the first visits or the rounds were refused
-pub answers-refused : {T : Type 0} (items : T → List Ended) (result : Result T OpenError) (e : OpenError) (sessions : List Session) (rounds : ℕ) (r0 r1 r2 : Option (List Event)) (old : Core) (mid new : ReactorState) (slots : List Slot) →
+pub answers-refused : {T : Type 0} (items : T → List Ended) (result : Result T OpenError) (e : OpenError)
+    (sessions : List Session) (rounds : ℕ) (r0 r1 r2 : Option (List Event)) (old : Core) (mid new : ReactorState)
+    (slots : List Slot) →
     IsErrAnd result (λ x. x ≡ e) → Halts {T = Unit {0}} (Err e) sessions rounds old r0 r1 mid.core slots → RefusedAt e r0 r1 old mid.core → new ≡ emptied mid →
     (gone : List Event) × (r2 ≡ told r1 gone) × (list_all is_delete gone ≡ true) → Answers items result sessions rounds r0 r2 old new.core
 answers-refused items result open_err.OutOfMemory sessions rounds r0 r1 r2 old mid new slots is halts (closed, (more, grown)) same (gone, gained, all) =
@@ -137,7 +141,9 @@ answers-refused items result (open_err.Exhausted c value) sessions rounds r0 r1 
     )
 
 -- a removal was refused
-pub answers-unremoved : {T : Type 0} (items : T → List Ended) (result : Result T OpenError) (e : OpenError) (sessions : List Session) (rounds : ℕ) (r0 r1 r2 : Option (List Event)) (old : Core) (mid new : ReactorState) (slots : List Slot) (n0 n1 : ℕ) →
+pub answers-unremoved : {T : Type 0} (items : T → List Ended) (result : Result T OpenError) (e : OpenError)
+    (sessions : List Session) (rounds : ℕ) (r0 r1 r2 : Option (List Event)) (old : Core) (mid new : ReactorState)
+    (slots : List Slot) (n0 n1 : ℕ) →
     IsErrAnd result (λ x. x ≡ e) → (past : Pieces) × CallSettled sessions rounds old r0 r1 mid.core slots past → VisitsCounted {T = Unit {0}} (Err e) n0 n1 → new ≡ emptied mid →
     (gone : List Event) × (r2 ≡ told r1 gone) × (list_all is_delete gone ≡ true) → Answers items result sessions rounds r0 r2 old new.core
 answers-unremoved items result open_err.OutOfMemory sessions rounds r0 r1 r2 old mid new slots n0 n1 is (past, x) counted same (gone, gained, all) =
@@ -172,7 +178,9 @@ opened-all sessions rounds r0 r1 old mid new slots endeds past built len owned x
     }
 
 -- all was done, unless there was no room for the endings
-pub answers-opened : {T : Type 0} (items : T → List Ended) (result : Result T OpenError) (sessions : List Session) (rounds : ℕ) (r0 r1 r2 : Option (List Event)) (old : Core) (mid new : ReactorState) (slots : List Slot) → AllBuilt sessions →
+pub answers-opened : {T : Type 0} (items : T → List Ended) (result : Result T OpenError) (sessions : List Session)
+    (rounds : ℕ) (r0 r1 r2 : Option (List Event)) (old : Core) (mid new : ReactorState) (slots : List Slot) →
+    AllBuilt sessions →
     length slots ≡ length sessions → Owned slots (tags mid.core.sources) →
     (past : Pieces) × CallSettled sessions rounds old r0 r1 mid.core slots past → new ≡ emptied mid → r2 ≡ told r1 (closing (length slots) 0 (map shown mid.core.sources)) →
     IfOk result (λ v. AllEnd 0 slots (items v)) → OnErr result (result ≡ Err open_err.OutOfMemory) → Answers items result sessions rounds r0 r2 old new.core

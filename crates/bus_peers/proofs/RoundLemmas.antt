@@ -1,5 +1,8 @@
 -- What a round wakes, and what the record shows of it.
-use Rattle.std.proofs.Common.{◌≡◌, ◌<◌, ◌≤◌, ◌+◌, ℕ, zero, suc, Bool, true, false, ◌||◌, ◌&&◌, eqb, ◌==◌, List, [], ◌∷◌, ◌++◌, length, map, Option, Some, None, Result, Ok, Err, IsErrAnd, slice_index, slice_index_or, nat_cmp, IsSorted, IsPermutation, Decides, refl, sym, ◌∙◌, ap, subst, arith}
+use Rattle.std.proofs.Common.{◌≡◌, ◌<◌, ◌≤◌, ◌+◌, ℕ, zero, suc, Bool, true, false, ◌||◌, ◌&&◌, eqb, ◌==◌, List, []}
+use Rattle.std.proofs.Common.{◌∷◌, ◌++◌, length, map, Option, Some, None, Result, Ok, Err, IsErrAnd, slice_index}
+use Rattle.std.proofs.Common.{slice_index_or, nat_cmp, IsSorted, IsPermutation, Decides, refl, sym, ◌∙◌, ap, subst}
+use Rattle.std.proofs.Common.{arith}
 use Rattle.std.proofs.lemmas.Bool.{eqb-true, or_parts}
 use Rattle.std.proofs.lemmas.Grind.{common_steps}
 use Rattle.std.proofs.lemmas.Bool.Decides.{same_from_decides}
@@ -26,7 +29,9 @@ use Rattle.react_core.specs.Told.{told, told-nothing, modify_told}
 use Rattle.react_core.specs.Core.{Core, ReactorState}
 use Rattle.react_core.specs.Sources.{source_of}
 use Rattle.react_core.specs.Sources as sources_of
-use Rattle.react_core.specs.Reports.{marked, without_task, reported, task_of, tasks_of, future_tasks, taken_of, taken_by, taken_by_all, after_report, after_report_of, after_reports, armings_by_of, armings_by, armings_by_all, armed_told, Try, tries_told}
+use Rattle.react_core.specs.Reports.{marked, without_task, reported, task_of, tasks_of, future_tasks, taken_of}
+use Rattle.react_core.specs.Reports.{taken_by, taken_by_all, after_report, after_report_of, after_reports}
+use Rattle.react_core.specs.Reports.{armings_by_of, armings_by, armings_by_all, armed_told, Try, tries_told}
 use Rattle.react_core.specs.Round.{reports_of, Ran, Course, CourseSteps, Pause, Unwaited, Waited, Reread, Unreread, Unread, Read, course_told, pause_reports, NumberedBy, OnExhausted, UnlessExhausted}
 use Rattle.react_core.specs.Step.{WokeAll, begun_round, finished_round}
 use Rattle.bus_peers.specs.declared.rounds.Woken.{Woken}
@@ -137,7 +142,9 @@ sane-marked : (b : Bool) (last task : ℕ) (d : Direction) → Sane (last + 1) l
 sane-marked true last task d sane = (omega arith, sane_marked_place last task (round_number d.reported) d.polled sane.1, lone-marked true (last + 1) d sane.2)
 sane-marked false last task d sane = sane
 
-sane_report_of : (last : ℕ) (sources : List (ℕ × Source)) (r : Report) (o : Option Source) → source_of sources r.key ≡ o → AllSane (last + 1) last sources → AllSane (last + 1) last (after_report_of (last + 1) sources r o)
+sane_report_of : (last : ℕ) (sources : List (ℕ × Source)) (r : Report) (o : Option Source) →
+    source_of sources r.key ≡ o → AllSane (last + 1) last sources →
+    AllSane (last + 1) last (after_report_of (last + 1) sources r o)
 sane_report_of last sources r None e sane = sane
 sane_report_of last sources r (Some s) e sane =
     let at : SaneSource (last + 1) last s = sane-at (last + 1) last sources r.key s sane e in
@@ -149,14 +156,17 @@ sane-reports last sources (r ∷ reports) sane = sane-reports last (after_report
 
 -- ---- the re-arming is what the record shows
 
-rearmed-shown : (last : ℕ) (r : Report) (o : Option Source) → ((s : Source) → o ≡ Some s → SaneSource (last + 1) last s) → map armed_told (armings_by_of (last + 1) r o) ≡ rearming_of (option_map (shown_at r.key) o) r
+rearmed-shown : (last : ℕ) (r : Report) (o : Option Source) →
+    ((s : Source) → o ≡ Some s → SaneSource (last + 1) last s) →
+    map armed_told (armings_by_of (last + 1) r o) ≡ rearming_of (option_map (shown_at r.key) o) r
 rearmed-shown last r None sane = refl
 rearmed-shown last r (Some s) sane =
     let at : SaneSource (last + 1) last s = sane s refl in
     arming-shown r.key (reported (last + 1) r s) (lone-marked r.read (last + 1) s.read at.0.2) (lone-marked r.write (last + 1) s.write at.1.2) ∙ ap arming (reported-shown (last + 1) r r.key s)
 
 -- what the reactor arms after reports is what the record shows
-rearming-shown : (last : ℕ) (sources : List (ℕ × Source)) (reports : List Report) → AllSane (last + 1) last sources → map armed_told (armings_by_all (last + 1) sources reports) ≡ rearming (map shown sources) reports
+rearming-shown : (last : ℕ) (sources : List (ℕ × Source)) (reports : List Report) → AllSane (last + 1) last sources →
+    map armed_told (armings_by_all (last + 1) sources reports) ≡ rearming (map shown sources) reports
 rearming-shown last sources [] sane = refl
 rearming-shown last sources (r ∷ reports) sane =
     let first : List Event = map armed_told (armings_by (last + 1) sources r) in
@@ -182,7 +192,8 @@ sane-weaker round round' last last' [] le le' sane = tt
 sane-weaker round round' last last' (s ∷ sources) le le' sane =
     ((weaker round round' last last' s.1.wire s.1.read le le' sane.0.0, weaker round round' last last' s.1.wire s.1.write le le' sane.0.1), sane-weaker round round' last last' sources le le' sane.1)
 
-apart_report_go : (w : ℕ) (h : Held) (held : List Held) (r : Report) (b : Bool) → (h.key == r.key) ≡ b → Apart w (h ∷ held) → Apart w (after_report_held held r) → Apart w (after_report_held (h ∷ held) r)
+apart_report_go : (w : ℕ) (h : Held) (held : List Held) (r : Report) (b : Bool) → (h.key == r.key) ≡ b →
+    Apart w (h ∷ held) → Apart w (after_report_held held r) → Apart w (after_report_held (h ∷ held) r)
 apart_report_go w h held r true e apart ih = rw e apart
 apart_report_go w h held r false e apart ih = rw e (apart.0, ih)
 
@@ -190,7 +201,8 @@ apart-report : (w : ℕ) (held : List Held) (r : Report) → Apart w held → Ap
 apart-report w [] r apart = tt
 apart-report w (h ∷ held) r apart = apart_report_go w h held r (h.key == r.key) refl apart (apart-report w held r apart.1)
 
-distinct_report_go : (h : Held) (held : List Held) (r : Report) (b : Bool) → (h.key == r.key) ≡ b → Distinct (h ∷ held) → Distinct (after_report_held held r) → Distinct (after_report_held (h ∷ held) r)
+distinct_report_go : (h : Held) (held : List Held) (r : Report) (b : Bool) → (h.key == r.key) ≡ b →
+    Distinct (h ∷ held) → Distinct (after_report_held held r) → Distinct (after_report_held (h ∷ held) r)
 distinct_report_go h held r true e distinct ih = rw e distinct
 distinct_report_go h held r false e distinct ih = rw e (apart-report h.wire held r distinct.0, ih)
 
@@ -296,7 +308,9 @@ pub due-none : (w : ℕ) (held : List Held) → due_at held [] w ≡ false
 due-none w [] = refl
 due-none w (h ∷ held) = rw (and_false, due-none w held) refl
 
-rising_go : (low : ℕ) (h : Held) (held : List Held) (r : Report) (b : Bool) → (h.key == r.key) ≡ b → Rising low (h ∷ held) → Rising (h.key + 1) (after_report_held held r) → Rising low (after_report_held (h ∷ held) r)
+rising_go : (low : ℕ) (h : Held) (held : List Held) (r : Report) (b : Bool) → (h.key == r.key) ≡ b →
+    Rising low (h ∷ held) → Rising (h.key + 1) (after_report_held held r) →
+    Rising low (after_report_held (h ∷ held) r)
 rising_go low h held r true e up ih = rw e up
 rising_go low h held r false e up ih = rw e (up.0, ih)
 
@@ -308,7 +322,9 @@ rising-shown : (low : ℕ) (sources : List (ℕ × Source)) → sources_of.Rises
 rising-shown low [] up = tt
 rising-shown low (s ∷ sources) up = (up.0, rising-shown (s.0 + 1) sources up.1)
 
-taken_task : (w task reported since : ℕ) (o : Option ℕ) → SaneTask task reported since o → is_in w (task_of (Some (record { since = since; task = o }))) ≡ (waits (place_side (Some (record { since = since; task = o }))) && (task == w))
+taken_task : (w task reported since : ℕ) (o : Option ℕ) → SaneTask task reported since o →
+    is_in w (task_of (Some (record { since = since; task = o }))) ≡
+    (waits (place_side (Some (record { since = since; task = o }))) && (task == w))
 taken_task w task reported since None sane = refl
 taken_task w task reported since (Some stored) sane = or_false (stored == w) ∙ ap (λ x. x == w) sane.0
 
@@ -337,7 +353,9 @@ two_sides false false false = refl
 taken_source : (w round last : ℕ) (r : Report) (s : Source) → SaneSource round last s →
     is_in w (taken_of r.write s.write ++ taken_of r.read s.read) ≡ ((s.wire == w) && ((r.read && waits (side_of s.read)) || (r.write && waits (side_of s.write))))
 taken_source w round last r s sane =
-    let split : is_in w (taken_of r.write s.write ++ taken_of r.read s.read) ≡ (is_in w (taken_of r.write s.write) || is_in w (taken_of r.read s.read)) = list_any-append (λ x. x == w) (taken_of r.write s.write) (taken_of r.read s.read) in
+    let split : is_in w (taken_of r.write s.write ++ taken_of r.read s.read) ≡
+    (is_in w (taken_of r.write s.write) || is_in w (taken_of r.read s.read)) =
+    list_any-append (λ x. x == w) (taken_of r.write s.write) (taken_of r.read s.read) in
     split ∙ (ap (λ x. x || is_in w (taken_of r.read s.read)) (taken_side w round last s.wire r.write s.write sane.1)
     ∙ (ap (λ x. ((r.write && waits (side_of s.write)) && (s.wire == w)) || x) (taken_side w round last s.wire r.read s.read sane.0)
     ∙ two_sides (r.write && waits (side_of s.write)) (r.read && waits (side_of s.read)) (s.wire == w)))
@@ -350,7 +368,8 @@ taken_go w round last low s sources r true e sane up ih =
     rw (e, flip_true s.0 r.key e, unnamed (s.0 + 1) w (map shown sources) r up.1 lt) (taken_source w round last r s.1 sane ∙ sym (or_false _))
 taken_go w round last low s sources r false e sane up ih = rw (e, flip_false s.0 r.key e, and_false (s.1.wire == w)) ih
 
-taken-named : (w round last low : ℕ) (sources : List (ℕ × Source)) (r : Report) → AllSane round last sources → Rising low (map shown sources) → is_in w (taken_by sources r) ≡ named_at (map shown sources) r w
+taken-named : (w round last low : ℕ) (sources : List (ℕ × Source)) (r : Report) → AllSane round last sources →
+    Rising low (map shown sources) → is_in w (taken_by sources r) ≡ named_at (map shown sources) r w
 taken-named w round last low [] r sane up = refl
 taken-named w round last low (s ∷ sources) r sane up =
     taken_go w round last low s sources r (s.0 == r.key) refl sane.0 up (taken-named w round last (s.0 + 1) sources r sane.1 up.1)
@@ -387,7 +406,9 @@ rounded r0 r1 old new before after woken r round rests up none ordered =
     let t : ℕ = old.ticker + 1 in
     let reports : List Report = reports_of r.answer in
     let sane : AllSane (old.ticker + 1) old.ticker old.sources = sane-weaker old.ticker (old.ticker + 1) old.ticker old.ticker old.sources (omega arith) (omega arith) rests.sane in
-    let all : (before.lost ≡ false) × (after.tasks.items ≡ before.tasks.items ++ taken_by_all (old.ticker + 1) old.sources reports) = woken-all before after (taken_by_all (old.ticker + 1) old.sources reports) round.woken ordered.0 in
+    let all : (before.lost ≡ false) ×
+    (after.tasks.items ≡ before.tasks.items ++ taken_by_all (old.ticker + 1) old.sources reports) =
+    woken-all before after (taken_by_all (old.ticker + 1) old.sources reports) round.woken ordered.0 in
     let tasks : after.tasks.items ≡ taken_by_all (old.ticker + 1) old.sources reports = all.1 ∙ ap (λ x. x ++ taken_by_all (old.ticker + 1) old.sources reports) none in
     record {
       form = round.form;
@@ -411,7 +432,8 @@ rounded r0 r1 old new before after woken r round rests up none ordered =
 
 -- ---- a round that is refused
 
-pub round-tags : {W : Type 0} (woke : W → ℕ → W → Type 0) (timeout : Option ℕ) (r0 r1 : Option (List Event)) (old new : Core) (wakes wakes' : W) (r : Round) → Rounds woke timeout r0 r1 old new wakes wakes' r →
+pub round-tags : {W : Type 0} (woke : W → ℕ → W → Type 0) (timeout : Option ℕ) (r0 r1 : Option (List Event))
+    (old new : Core) (wakes wakes' : W) (r : Round) → Rounds woke timeout r0 r1 old new wakes wakes' r →
     tags new.sources ≡ tags old.sources
 round-tags woke timeout r0 r1 old new wakes wakes' r round = ap (λ c. tags c.sources) round.core ∙ tags-after_reports (old.ticker + 1) old.sources (reports_of r.answer)
 
@@ -427,10 +449,12 @@ RanSo r0 r1 m0 m1 old new wakes wakes' e = (course : Course) × (tries : List Tr
 abbrev pub Same : ReactorState → ReactorState → Option (List Event) → Option (List Event) → Woken → Woken → ℕ → ℕ → Type 0
 Same old new r0 r1 wakes wakes' m0 m1 = (new ≡ old) × (wakes' ≡ wakes) × (r1 ≡ r0) × (m1 ≡ m0)
 
-ran_tags : (r0 r1 : Option (List Event)) (m0 m1 : ℕ) (old new : ReactorState) (wakes wakes' : Woken) (e : ReactError) → RanSo r0 r1 m0 m1 old new wakes wakes' e → tags new.core.sources ≡ tags old.core.sources
+ran_tags : (r0 r1 : Option (List Event)) (m0 m1 : ℕ) (old new : ReactorState) (wakes wakes' : Woken)
+    (e : ReactError) → RanSo r0 r1 m0 m1 old new wakes wakes' e → tags new.core.sources ≡ tags old.core.sources
 ran_tags r0 r1 m0 m1 old new wakes wakes' e (course, tries, ran) = course_tags old.core new.core course ran.tasks ran.steps
 
-pub refused-tags : (r0 r1 : Option (List Event)) (m0 m1 : ℕ) (old new : ReactorState) (wakes wakes' : Woken) (e : ReactError) → UnlessExhausted {T = Unit {0}} (Err e) (RanSo r0 r1 m0 m1 old new wakes wakes' e) →
+pub refused-tags : (r0 r1 : Option (List Event)) (m0 m1 : ℕ) (old new : ReactorState) (wakes wakes' : Woken)
+    (e : ReactError) → UnlessExhausted {T = Unit {0}} (Err e) (RanSo r0 r1 m0 m1 old new wakes wakes' e) →
     OnExhausted {T = Unit {0}} (Err e) (Same old new r0 r1 wakes wakes' m0 m1) → tags new.core.sources ≡ tags old.core.sources
 refused-tags r0 r1 m0 m1 old new wakes wakes' react_err.Poller ran same = ran_tags r0 r1 m0 m1 old new wakes wakes' react_err.Poller ran
 refused-tags r0 r1 m0 m1 old new wakes wakes' react_err.OutOfMemory ran same = ran_tags r0 r1 m0 m1 old new wakes wakes' react_err.OutOfMemory ran
@@ -452,7 +476,9 @@ paused_waits : (first : ℕ) (pause : Pause) (tries : List Try) → waits_in (co
 paused_waits first pause tries one = waits_in-append (course_told None (Read first pause)) (tries_told tries)
     ∙ (ap (λ n. n + waits_in (tries_told tries)) one ∙ ap (λ n. 1 + n) (tries_waits tries))
 
-paused_told : (r0 r1 : Option (List Event)) (m0 m1 : ℕ) (old new : ReactorState) (wakes wakes' : Woken) (first : ℕ) (pause : Pause) (tries : List Try) → Ran WokenBy None r0 r1 m0 m1 old new wakes wakes' (Err react_err.Poller) (Read first pause) tries →
+paused_told : (r0 r1 : Option (List Event)) (m0 m1 : ℕ) (old new : ReactorState) (wakes wakes' : Woken) (first : ℕ)
+    (pause : Pause) (tries : List Try) → Ran WokenBy None r0 r1 m0 m1 old new wakes wakes' (Err react_err.Poller)
+    (Read first pause) tries →
     new.core.hands ≡ None → waits_in (course_told None (Read first pause)) ≡ 1 → Told r0 r1 old.core new.core (course_told None (Read first pause) ++ tries_told tries)
 paused_told r0 r1 m0 m1 old new wakes wakes' first pause tries ran closed one =
     let core : new.core ≡ finished_round (begun_round old.core) (pause_reports pause) = course-core old.core new.core first pause ran.tasks ran.steps in record {
@@ -462,7 +488,9 @@ paused_told r0 r1 m0 m1 old new wakes wakes' first pause tries ran closed one =
       ticker = ap (λ c. c.ticker) core ∙ ap (λ n. old.core.ticker + n) (sym (paused_waits first pause tries one));
     }
 
-poller_told : (r0 r1 : Option (List Event)) (m0 m1 : ℕ) (old new : ReactorState) (wakes wakes' : Woken) (course : Course) (tries : List Try) → Ran WokenBy None r0 r1 m0 m1 old new wakes wakes' (Err react_err.Poller) course tries → new.core.hands ≡ None →
+poller_told : (r0 r1 : Option (List Event)) (m0 m1 : ℕ) (old new : ReactorState) (wakes wakes' : Woken)
+    (course : Course) (tries : List Try) → Ran WokenBy None r0 r1 m0 m1 old new wakes wakes' (Err react_err.Poller)
+    course tries → new.core.hands ≡ None →
     Told r0 r1 old.core new.core (course_told None course ++ tries_told tries)
 poller_told r0 r1 m0 m1 old new wakes wakes' Unread tries ran closed = let e = ran.answers in absurd cc
 poller_told r0 r1 m0 m1 old new wakes wakes' (Read first Unwaited) tries ran closed = let e = ran.answers in absurd cc
@@ -470,10 +498,13 @@ poller_told r0 r1 m0 m1 old new wakes wakes' (Read first (Waited answer)) tries 
 poller_told r0 r1 m0 m1 old new wakes wakes' (Read first (Reread answer moment)) tries ran closed = paused_told r0 r1 m0 m1 old new wakes wakes' first (Reread answer moment) tries ran closed refl
 poller_told r0 r1 m0 m1 old new wakes wakes' (Read first (Unreread answer)) tries ran closed = paused_told r0 r1 m0 m1 old new wakes wakes' first (Unreread answer) tries ran closed refl
 
-poller_refused : (r0 r1 : Option (List Event)) (m0 m1 : ℕ) (old new : ReactorState) (wakes wakes' : Woken) → RanSo r0 r1 m0 m1 old new wakes wakes' react_err.Poller → new.core.hands ≡ None → (more : List Event) × Told r0 r1 old.core new.core more
+poller_refused : (r0 r1 : Option (List Event)) (m0 m1 : ℕ) (old new : ReactorState) (wakes wakes' : Woken) →
+    RanSo r0 r1 m0 m1 old new wakes wakes' react_err.Poller → new.core.hands ≡ None → (more : List Event) ×
+    Told r0 r1 old.core new.core more
 poller_refused r0 r1 m0 m1 old new wakes wakes' (course, tries, ran) closed = (course_told None course ++ tries_told tries, poller_told r0 r1 m0 m1 old new wakes wakes' course tries ran closed)
 
-memory_refused : (r0 r1 : Option (List Event)) (m0 m1 : ℕ) (old new : ReactorState) (wakes wakes' : Woken) → RanSo r0 r1 m0 m1 old new wakes wakes' react_err.OutOfMemory → (more : List Event) × (r1 ≡ told r0 more)
+memory_refused : (r0 r1 : Option (List Event)) (m0 m1 : ℕ) (old new : ReactorState) (wakes wakes' : Woken) →
+    RanSo r0 r1 m0 m1 old new wakes wakes' react_err.OutOfMemory → (more : List Event) × (r1 ≡ told r0 more)
 memory_refused r0 r1 m0 m1 old new wakes wakes' (course, tries, ran) = (course_told None course ++ tries_told tries, ran.gained)
 
 same_told : (r0 r1 : Option (List Event)) (old new : ReactorState) → new ≡ old → r1 ≡ r0 → new.core.hands ≡ None → Told r0 r1 old.core new.core []
@@ -484,15 +515,19 @@ same_told r0 r1 old new same events closed = record {
   ticker = ap (λ x. x.core.ticker) same ∙ omega arith;
 }
 
-refused_by : (r0 r1 : Option (List Event)) (m0 m1 : ℕ) (old new : ReactorState) (wakes wakes' : Woken) (e : ReactError) → UnlessExhausted {T = Unit {0}} (Err e) (RanSo r0 r1 m0 m1 old new wakes wakes' e) →
-    OnExhausted {T = Unit {0}} (Err e) (Same old new r0 r1 wakes wakes' m0 m1) → NumberedBy {T = Unit {0}} (Err e) old.core.ticker → new.core.hands ≡ None → RefusedAt (open_error e) r0 r1 old.core new.core
+refused_by : (r0 r1 : Option (List Event)) (m0 m1 : ℕ) (old new : ReactorState) (wakes wakes' : Woken)
+    (e : ReactError) → UnlessExhausted {T = Unit {0}} (Err e) (RanSo r0 r1 m0 m1 old new wakes wakes' e) →
+    OnExhausted {T = Unit {0}} (Err e) (Same old new r0 r1 wakes wakes' m0 m1) →
+    NumberedBy {T = Unit {0}} (Err e) old.core.ticker → new.core.hands ≡ None →
+    RefusedAt (open_error e) r0 r1 old.core new.core
 refused_by r0 r1 m0 m1 old new wakes wakes' react_err.Poller ran same numbered closed = poller_refused r0 r1 m0 m1 old new wakes wakes' ran closed
 refused_by r0 r1 m0 m1 old new wakes wakes' react_err.OutOfMemory ran same numbered closed = (closed, memory_refused r0 r1 m0 m1 old new wakes wakes' ran)
 refused_by r0 r1 m0 m1 old new wakes wakes' (react_err.Exhausted c value) ran same numbered closed =
     (numbered.0, numbered.1, ap (λ x. x.core.ticker) same.0 ∙ numbered.2, ([], same_told r0 r1 old new same.0 same.2 closed))
 
 -- an answer of this refusal
-pub round-refused : {T : Type 0} (result : Result T OpenError) (r0 r1 : Option (List Event)) (m0 m1 : ℕ) (old new : ReactorState) (wakes wakes' : Woken) (e : ReactError) → IsErrAnd result (λ x. x ≡ open_error e) →
+pub round-refused : {T : Type 0} (result : Result T OpenError) (r0 r1 : Option (List Event)) (m0 m1 : ℕ)
+    (old new : ReactorState) (wakes wakes' : Woken) (e : ReactError) → IsErrAnd result (λ x. x ≡ open_error e) →
     UnlessExhausted {T = Unit {0}} (Err e) (RanSo r0 r1 m0 m1 old new wakes wakes' e) →
     OnExhausted {T = Unit {0}} (Err e) (Same old new r0 r1 wakes wakes' m0 m1) → NumberedBy {T = Unit {0}} (Err e) old.core.ticker → new.core.hands ≡ None → Refuses result r0 r1 old.core new.core
 round-refused (Ok v) r0 r1 m0 m1 old new wakes wakes' e is ran same numbered closed = tt
@@ -531,7 +566,9 @@ report-at : (held : List Held) (r : Report) (k : ℕ) (h : Held) → held_at hel
 report-at [] r k h is = (h, is, refl)
 report-at (x ∷ held) r k h is = report_go x held r k h (x.key == r.key) (x.key == k) refl refl is (report-at held r k h)
 
-reports_from : (held : List Held) (reports : List Report) (k : ℕ) (h : Held) → ((h1 : Held) → held_at held k ≡ Some h1 → (h2 : Held) × (held_at (after_reports_held held reports) k ≡ Some h2) × (h2.wire ≡ h1.wire)) →
+reports_from : (held : List Held) (reports : List Report) (k : ℕ) (h : Held) →
+    ((h1 : Held) → held_at held k ≡ Some h1 → (h2 : Held) × (held_at (after_reports_held held reports) k ≡ Some h2) ×
+    (h2.wire ≡ h1.wire)) →
     (h' : Held) × (held_at held k ≡ Some h') × (h'.wire ≡ h.wire) → (h2 : Held) × (held_at (after_reports_held held reports) k ≡ Some h2) × (h2.wire ≡ h.wire)
 reports_from held reports k h next (h', is, same) = (let z = next h' is in (z.0, z.1, z.2 ∙ same))
 

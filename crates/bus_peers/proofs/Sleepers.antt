@@ -82,7 +82,8 @@ sleepers-some n zero (s ∷ sessions) (slot.Refused ∷ slots) past sources c bu
 sleepers-some n (suc i) (s ∷ sessions) (d ∷ slots) past sources c built shows all at =
     let b = and_parts (is_built s) (list_all is_built sessions) built in
     some-later n s sessions past (sleeps s n past) refl (sleepers-some (n + 1) i sessions slots past sources c b.1 shows all.1 at) where
-      some-later : (n : ℕ) (s : Session) (sessions : List Session) (past : Pieces) (b : Bool) → sleeps s n past ≡ b → sleepers_from (n + 1) sessions past ≢ [] → sleepers_from n (s ∷ sessions) past ≢ []
+      some-later : (n : ℕ) (s : Session) (sessions : List Session) (past : Pieces) (b : Bool) → sleeps s n past ≡ b →
+          sleepers_from (n + 1) sessions past ≢ [] → sleepers_from n (s ∷ sessions) past ≢ []
       some-later n s sessions past true is later = not-nothing (sleepers_from n (s ∷ sessions) past) _ _ (first-sleeps n s sessions past is)
       some-later n s sessions past false is later = λ none. later (sym (first-awake n s sessions past is) ∙ none)
 sleepers-some n i [] (d ∷ slots) past sources c built shows all at = absurd all
@@ -95,7 +96,8 @@ abbrev removed : Pieces → Numbered → List Event
 removed past m = removal m.wire (key_of m.wire past)
 
 -- the removals of the sources that the slots own are those of the sleepers
-pub closing-so : (n : ℕ) (sessions : List Session) (slots : List Slot) (past : Pieces) (sources : List (ℕ × Source)) → AllBuilt sessions → Shows past (map shown sources) → AllStand n [] sessions slots past →
+pub closing-so : (n : ℕ) (sessions : List Session) (slots : List Slot) (past : Pieces) (sources : List (ℕ × Source)) →
+    AllBuilt sessions → Shows past (map shown sources) → AllStand n [] sessions slots past →
     AllOwn n slots (tags sources) → Single (tags sources) → closing (length sessions) n (map shown sources) ≡ flat_map (removed past) (sleepers_from n sessions past)
 closing-so n [] [] past sources built shows all own single = refl
 closing-so n (s ∷ sessions) (slot.Ended e ∷ slots) past sources built shows all own single =

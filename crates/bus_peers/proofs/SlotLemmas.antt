@@ -1,5 +1,7 @@
 -- The slots of the sessions: which keys they own, one of them, one replaced, and one more; and what was told, in all cases.
-use Rattle.std.proofs.Common.{◌≡◌, ◌≢◌, ◌≤◌, ◌<◌, ◌⊎◌, inl, inr, ℕ, ◌+◌, zero, suc, Bool, true, false, not, ◌&&◌, nat_lt, ◌==◌, List, [], ◌∷◌, ◌++◌, length, map, Option, Some, None, slice_get, slice_set, refl, sym, ◌∙◌, ap, subst, arith}
+use Rattle.std.proofs.Common.{◌≡◌, ◌≢◌, ◌≤◌, ◌<◌, ◌⊎◌, inl, inr, ℕ, ◌+◌, zero, suc, Bool, true, false, not, ◌&&◌}
+use Rattle.std.proofs.Common.{nat_lt, ◌==◌, List, [], ◌∷◌, ◌++◌, length, map, Option, Some, None, slice_get}
+use Rattle.std.proofs.Common.{slice_set, refl, sym, ◌∙◌, ap, subst, arith}
 use Rattle.std.specs.List.{list_all}
 use Rattle.std.proofs.lemmas.Bool.{both_ways, and_parts, and_from, or_parts, eq-eqb, ne_eqb, ltb-true, lt-ltb}
 use Rattle.std.proofs.lemmas.Option.{none-some, same_Some}
@@ -137,7 +139,8 @@ out-others ts wire key at w (slot.Ended e) ne owns = no_wire-without ts key w ow
 out-others ts wire key at w (slot.Asleep s) ne owns = tag_at-without ts key s.key (other-key ts key s.key wire w at owns ne) ∙ owns
 out-others ts wire key at w slot.Refused ne owns = no_wire-without ts key w owns
 
-owned-out : (wire key : ℕ) (slots : List Slot) (ts : Tags) (c : Slot) → Owned slots ts → tag_at ts key ≡ Some wire → Owns wire c (without_tag ts key) → Owned (slice_set slots wire c) (without_tag ts key)
+owned-out : (wire key : ℕ) (slots : List Slot) (ts : Tags) (c : Slot) → Owned slots ts → tag_at ts key ≡ Some wire →
+    Owns wire c (without_tag ts key) → Owned (slice_set slots wire c) (without_tag ts key)
 owned-out wire key slots ts c owned at is =
     let B : ℕ → Type 0 = λ n. are_below n (without_tag ts key) ≡ true in
     record {
@@ -147,13 +150,15 @@ owned-out wire key slots ts c owned at is =
     }
 
 -- its visit was refused, and its source taken out
-pub owned-refused : (wire key : ℕ) (slots : List Slot) (ts new : Tags) (d : Slot) → Owned slots ts → tag_at ts key ≡ Some wire → d ≡ slot.Refused → new ≡ without_tag ts key → Owned (slice_set slots wire d) new
+pub owned-refused : (wire key : ℕ) (slots : List Slot) (ts new : Tags) (d : Slot) → Owned slots ts →
+    tag_at ts key ≡ Some wire → d ≡ slot.Refused → new ≡ without_tag ts key → Owned (slice_set slots wire d) new
 owned-refused wire key slots ts new d owned at is out =
     let P : Slot → Type 0 = λ x. Owned (slice_set slots wire x) new in
     let Q : Tags → Type 0 = λ x. Owned (slice_set slots wire slot.Refused) x in
     subst P (sym is) (subst Q (sym out) (owned-out wire key slots ts slot.Refused owned at (has_wire-without ts key wire owned.single at)))
 
-owned-visited : (wire key : ℕ) (slots : List Slot) (ts : Tags) (b : Opening) (calls : List Event) (o : Option (List Event)) (held : List Held) (h : Held) (c : Slot) → Owned slots ts → tag_at ts key ≡ Some wire →
+owned-visited : (wire key : ℕ) (slots : List Slot) (ts : Tags) (b : Opening) (calls : List Event)
+    (o : Option (List Event)) (held : List Held) (h : Held) (c : Slot) → Owned slots ts → tag_at ts key ≡ Some wire →
     RegisteredVisitEnds wire key b calls o held h c → Owned (slice_set slots wire c) (tags_after key c ts)
 owned-visited wire key slots ts b calls o held h (slot.Ended e) owned at stays = owned-out wire key slots ts (slot.Ended e) owned at (has_wire-without ts key wire owned.single at)
 owned-visited wire key slots ts b calls o held h (slot.Asleep s) owned at stays =
@@ -165,7 +170,8 @@ owned-visited wire key slots ts b calls o held h (slot.Asleep s) owned at stays 
     }
 owned-visited wire key slots ts b calls o held h slot.Refused owned at stays = absurd stays
 
-pub owned-stays : (wire key : ℕ) (r0 r1 : Option (List Event)) (old new : Core) (b : Opening) (slots : List Slot) (c : Slot) → Owned slots (tags old.sources) → tag_at (tags old.sources) key ≡ Some wire →
+pub owned-stays : (wire key : ℕ) (r0 r1 : Option (List Event)) (old new : Core) (b : Opening) (slots : List Slot)
+    (c : Slot) → Owned slots (tags old.sources) → tag_at (tags old.sources) key ≡ Some wire →
     MakesRegisteredVisit wire key r0 r1 old new b c → Owned (slice_set slots wire c) (tags new.sources)
 owned-stays wire key r0 r1 old new b slots c owned at (h, h', calls, o, x) =
     let P : Tags → Type 0 = λ ts. Owned (slice_set slots wire c) ts in
@@ -180,7 +186,8 @@ pub others-stay : (wire key : ℕ) (r0 r1 : Option (List Event)) (old new : Core
     (w : ℕ) → w ≢ wire → has_wire w (tags new.sources) ≡ has_wire w (tags old.sources)
 others-stay wire key r0 r1 old new b c at (h, h', calls, o, x) = λ w ne. ap (has_wire w) x.tags ∙ other-wires wire key (tags old.sources) c at w ne
 
-stays-open : (wire key : ℕ) (b : Opening) (calls : List Event) (o : Option (List Event)) (held : List Held) (h : Held) (c : Slot) → RegisteredVisitEnds wire key b calls o held h c → is_open_slot c ≡ true
+stays-open : (wire key : ℕ) (b : Opening) (calls : List Event) (o : Option (List Event)) (held : List Held) (h : Held)
+    (c : Slot) → RegisteredVisitEnds wire key b calls o held h c → is_open_slot c ≡ true
 stays-open wire key b calls o held h (slot.Ended e) stays = refl
 stays-open wire key b calls o held h (slot.Asleep s) stays = ap not stays.open_
 stays-open wire key b calls o held h slot.Refused stays = refl
@@ -264,7 +271,8 @@ refused-more open_err.OutOfMemory r0 r1 r2 old mid new a x (closed, grown) = (cl
 refused-more open_err.Poller r0 r1 r2 old mid new a x y = told-both r0 r1 r2 old mid new (a, x) y
 refused-more (open_err.Exhausted counter value) r0 r1 r2 old mid new a x (is, at, last, y) = (is, at, last, told-both r0 r1 r2 old mid new (a, x) y)
 
-pub refuses-more : {T : Type 0} (result : Result T OpenError) (r0 r1 r2 : Option (List Event)) (old mid new : Core) → (a : List Event) × Told r0 r1 old mid a → Refuses result r1 r2 mid new → Refuses result r0 r2 old new
+pub refuses-more : {T : Type 0} (result : Result T OpenError) (r0 r1 r2 : Option (List Event)) (old mid new : Core) →
+    (a : List Event) × Told r0 r1 old mid a → Refuses result r1 r2 mid new → Refuses result r0 r2 old new
 refuses-more (Ok v) r0 r1 r2 old mid new x y = tt
 refuses-more (Err e) r0 r1 r2 old mid new (a, x) y = refused-more e r0 r1 r2 old mid new a x y
 
@@ -292,7 +300,8 @@ wires-here w rest ts have = (and_parts (has_wire w ts) (list_all (λ x. has_wire
 pub rise-next : (w : ℕ) (wires rest : List ℕ) → wires ≡ w ∷ rest → (low : ℕ) × RisesFrom low wires → (low : ℕ) × RisesFrom low rest
 rise-next w wires rest next (low, rise) = let P : List ℕ → Type 0 = λ x. RisesFrom low x in let h : RisesFrom low (w ∷ rest) = subst P next rise in (w + 1, h.1)
 
-pub have-rest : (w : ℕ) (wires rest : List ℕ) (old new : Tags) → wires ≡ w ∷ rest → (low : ℕ) × RisesFrom low wires → ((v : ℕ) → v ≢ w → has_wire v new ≡ has_wire v old) → HaveWires wires old → HaveWires rest new
+pub have-rest : (w : ℕ) (wires rest : List ℕ) (old new : Tags) → wires ≡ w ∷ rest → (low : ℕ) × RisesFrom low wires →
+    ((v : ℕ) → v ≢ w → has_wire v new ≡ has_wire v old) → HaveWires wires old → HaveWires rest new
 have-rest w wires rest old new next (low, rise) same have =
     let P : List ℕ → Type 0 = λ x. RisesFrom low x in
     let Q : List ℕ → Type 0 = λ x. HaveWires x old in
@@ -304,11 +313,14 @@ wire-below w n wires rest slots ts next have owned len =
     let less : w < length slots = has_wire-below (length slots) w ts (wires-here w rest ts (subst Q next have)) owned.below in
     omega (arith, less, len)
 
-pub goes-next : (w : ℕ) (all wires rest : List ℕ) (r0 r1 r2 : Option (List Event)) (old mid new : Core) (slots slots' slots'' : List Slot) → wires ≡ w ∷ rest → VisitsKeepCall all wires r0 r1 old mid slots slots' →
+pub goes-next : (w : ℕ) (all wires rest : List ℕ) (r0 r1 r2 : Option (List Event)) (old mid new : Core)
+    (slots slots' slots'' : List Slot) → wires ≡ w ∷ rest → VisitsKeepCall all wires r0 r1 old mid slots slots' →
     ((pending : List ℕ) → VisitsKeepCall (w ∷ pending) pending r1 r2 mid new slots' slots'') → VisitsKeepCall all rest r0 r2 old new slots slots''
 goes-next w all wires rest r0 r1 r2 old mid new slots slots' slots'' next goes visits = λ sessions rounds n begin before built went.
     let W : List ℕ → Type 0 = λ x. CallStandsAfter sessions rounds x n begin before r1 mid slots' in
     visits rest sessions rounds n begin before built (subst W next (goes sessions rounds n begin before built went))
 
-pub goes-all : (all wires : List ℕ) (r0 r1 : Option (List Event)) (old new : Core) (slots slots' : List Slot) → wires ≡ [] → VisitsKeepCall all wires r0 r1 old new slots slots' → VisitsKeepCall all [] r0 r1 old new slots slots'
+pub goes-all : (all wires : List ℕ) (r0 r1 : Option (List Event)) (old new : Core) (slots slots' : List Slot) →
+    wires ≡ [] → VisitsKeepCall all wires r0 r1 old new slots slots' →
+    VisitsKeepCall all [] r0 r1 old new slots slots'
 goes-all all wires r0 r1 old new slots slots' none goes = let G : List ℕ → Type 0 = λ x. VisitsKeepCall all x r0 r1 old new slots slots' in subst G none goes

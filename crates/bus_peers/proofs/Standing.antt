@@ -1,5 +1,7 @@
 -- Where the sessions stand: one that is not visited stands where it stood, and all of them rest.
-use Rattle.std.proofs.Common.{◌≡◌, ◌≢◌, ◌≤◌, ◌<◌, ◌⊎◌, inl, inr, ℕ, ◌+◌, zero, suc, Bool, true, false, not, ◌||◌, ◌==◌, if◌then◌else◌, List, [], ◌∷◌, ◌++◌, length, take, Some, None, is_some, slice_get, slice_set, refl, sym, ◌∙◌, ap, subst, arith}
+use Rattle.std.proofs.Common.{◌≡◌, ◌≢◌, ◌≤◌, ◌<◌, ◌⊎◌, inl, inr, ℕ, ◌+◌, zero, suc, Bool, true, false, not, ◌||◌}
+use Rattle.std.proofs.Common.{◌==◌, if◌then◌else◌, List, [], ◌∷◌, ◌++◌, length, take, Some, None, is_some, slice_get}
+use Rattle.std.proofs.Common.{slice_set, refl, sym, ◌∙◌, ap, subst, arith}
 use Rattle.std.specs.List.{list_all}
 use Rattle.std.proofs.lemmas.Bool.{both_ways, or_left, or_right, and_from, and_parts}
 use Rattle.std.proofs.lemmas.Option.{none-some, same_Some}
@@ -69,7 +71,8 @@ stands-move s wire pending pending' before after slot.Refused still moves is = a
 
 -- ---- all sessions, one of them, and one more
 
-pub stand-at : (n i w : ℕ) (pending : List ℕ) (sessions : List Session) (slots : List Slot) (past : Pieces) (c : Slot) → w ≡ n + i → slice_get slots i ≡ Some c → AllStand n pending sessions slots past →
+pub stand-at : (n i w : ℕ) (pending : List ℕ) (sessions : List Session) (slots : List Slot) (past : Pieces)
+    (c : Slot) → w ≡ n + i → slice_get slots i ≡ Some c → AllStand n pending sessions slots past →
     (s : Session) × (slice_get sessions i ≡ Some s) × Stands s w pending past c
 stand-at n i w pending [] [] past c here at all = absurd (none-some c at)
 stand-at n i w pending (s ∷ sessions) [] past c here at all = absurd all
@@ -81,7 +84,8 @@ stand-at n zero w pending (s ∷ sessions) (d ∷ slots) past c here at all =
     (s, refl, subst Q place (subst P (same_Some d c at) all.0))
 stand-at n (suc i) w pending (s ∷ sessions) (d ∷ slots) past c here at all = stand-at (n + 1) i w pending sessions slots past c (omega (arith, here)) at all.1
 
-pub stand-of : (n i w : ℕ) (pending : List ℕ) (sessions : List Session) (slots : List Slot) (past : Pieces) (s : Session) → w ≡ n + i → slice_get sessions i ≡ Some s → AllStand n pending sessions slots past →
+pub stand-of : (n i w : ℕ) (pending : List ℕ) (sessions : List Session) (slots : List Slot) (past : Pieces)
+    (s : Session) → w ≡ n + i → slice_get sessions i ≡ Some s → AllStand n pending sessions slots past →
     (c : Slot) × Stands s w pending past c
 stand-of n i w pending [] slots past s here at all = absurd (none-some s at)
 stand-of n i w pending (t ∷ sessions) [] past s here at all = absurd all
@@ -93,7 +97,8 @@ stand-of n zero w pending (t ∷ sessions) (d ∷ slots) past s here at all =
 stand-of n (suc i) w pending (t ∷ sessions) (d ∷ slots) past s here at all = stand-of (n + 1) i w pending sessions slots past s (omega (arith, here)) at all.1
 
 pub stand-move : (n : ℕ) (pending pending' : List ℕ) (sessions : List Session) (slots : List Slot) (past past' : Pieces) →
-    ((s : Session) (w : ℕ) (c : Slot) → n ≤ w → w < n + length slots → Stands s w pending past c → Stands s w pending' past' c) → AllStand n pending sessions slots past → AllStand n pending' sessions slots past'
+    ((s : Session) (w : ℕ) (c : Slot) → n ≤ w → w < n + length slots → Stands s w pending past c →
+    Stands s w pending' past' c) → AllStand n pending sessions slots past → AllStand n pending' sessions slots past'
 stand-move n pending pending' [] [] past past' moves all = tt
 stand-move n pending pending' (s ∷ sessions) (c ∷ slots) past past' moves all =
     (moves s n c (omega arith) (omega arith) all.0, stand-move (n + 1) pending pending' sessions slots past past' (λ t w d low high. moves t w d (omega (arith, low)) (omega (arith, high))) all.1)
@@ -101,19 +106,26 @@ stand-move n pending pending' [] (c ∷ slots) past past' moves all = all
 stand-move n pending pending' (s ∷ sessions) [] past past' moves all = all
 
 pub stand-set : (n i w : ℕ) (pending pending' : List ℕ) (sessions : List Session) (slots : List Slot) (past past' : Pieces) (s : Session) (c : Slot) → w ≡ n + i → slice_get sessions i ≡ Some s →
-    ((t : Session) (v : ℕ) (d : Slot) → v ≢ w → Stands t v pending past d → Stands t v pending' past' d) → Stands s w pending' past' c → AllStand n pending sessions slots past → AllStand n pending' sessions (slice_set slots i c) past'
+    ((t : Session) (v : ℕ) (d : Slot) → v ≢ w → Stands t v pending past d → Stands t v pending' past' d) →
+    Stands s w pending' past' c → AllStand n pending sessions slots past →
+    AllStand n pending' sessions (slice_set slots i c) past'
 stand-set n i w pending pending' [] slots past past' s c here at moves is all = absurd (none-some s at)
 stand-set n i w pending pending' (t ∷ sessions) [] past past' s c here at moves is all = absurd all
 stand-set n zero w pending pending' (t ∷ sessions) (d ∷ slots) past past' s c here at moves is all =
     let place : w ≡ n = omega (arith, here) in
     let P : Session → Type 0 = λ x. Stands x n pending' past' c in
-    let Q : ℕ → Type 0 = λ k. Stands s k pending' past' c in
-    (subst P (sym (same_Some t s at)) (subst Q place is), stand-move (n + 1) pending pending' sessions slots past past' (λ u v x low high. let ne : v ≢ w = λ e. omega (arith, low, here, e) in moves u v x ne) all.1)
+    let Q : ℕ → Type 0 = λ k. Stands s k pending' past' c in (
+      subst P (sym (same_Some t s at)) (subst Q place is),
+      stand-move (n + 1) pending pending' sessions slots past
+          past' (λ u v x low high. let ne : v ≢ w = λ e. omega (arith, low, here, e) in moves u v x ne) all.1,
+    )
 stand-set n (suc i) w pending pending' (t ∷ sessions) (d ∷ slots) past past' s c here at moves is all =
     let ne : n ≢ w = λ e. omega (arith, here, e) in
     (moves t n d ne all.0, stand-set (n + 1) i w pending pending' sessions slots past past' s c (omega (arith, here)) at moves is all.1)
 
-pub stand-more : (n w : ℕ) (pending : List ℕ) (sessions : List Session) (slots : List Slot) (past : Pieces) (s : Session) (c : Slot) → w ≡ n + length slots → AllStand n pending sessions slots past → Stands s w pending past c →
+pub stand-more : (n w : ℕ) (pending : List ℕ) (sessions : List Session) (slots : List Slot) (past : Pieces)
+    (s : Session) (c : Slot) → w ≡ n + length slots → AllStand n pending sessions slots past →
+    Stands s w pending past c →
     AllStand n pending (sessions ++ s ∷ []) (slots ++ c ∷ []) past
 stand-more n w pending [] [] past s c here all is =
     let place : w ≡ n = omega (arith, here) in

@@ -1,5 +1,7 @@
 -- What a visit over the reactor comes to, in the record.
-use Rattle.std.proofs.Common.{◌≡◌, ◌≢◌, ℕ, ◌+◌, ◌<◌, Bool, true, false, not, ◌||◌, nat_lt, if◌then◌else◌, List, [], ◌∷◌, ◌++◌, map, length, Option, Some, None, is_some, is_none, refl, sym, ◌∙◌, ap, subst, inl, arith}
+use Rattle.std.proofs.Common.{◌≡◌, ◌≢◌, ℕ, ◌+◌, ◌<◌, Bool, true, false, not, ◌||◌, nat_lt, if◌then◌else◌, List, []}
+use Rattle.std.proofs.Common.{◌∷◌, ◌++◌, map, length, Option, Some, None, is_some, is_none, refl, sym, ◌∙◌, ap, subst}
+use Rattle.std.proofs.Common.{inl, arith}
 use Rattle.std.specs.Prelude.{count_by, sum_by}
 use Rattle.std.specs.Option.{option_map, option_and_then}
 use Rattle.std.proofs.lemmas.List.{append-nil}
@@ -321,7 +323,11 @@ module _ (s : Session) (wire key : ℕ) (past : Pieces) (r0 r1 : Option (List Ev
             through = course-after s wire past v begin end calls came (own-stay wire calls tail own (x.apart wire)) (goes.through paused-so s.party);
           };
           paused = record {
-            registered = key-here wire past v ∙ (key-append (key_of wire past) calls tail ∙ (arming.keyless _ ∙ (calls-key wire calls (key_of wire past) own ∙ (keyed ∙ ap Some (source.0 ∙ sym x.stays.at)))));
+            registered =
+                key-here wire past v ∙
+                (key-append (key_of wire past) calls tail ∙
+                (arming.keyless _ ∙
+                (calls-key wire calls (key_of wire past) own ∙ (keyed ∙ ap Some (source.0 ∙ sym x.stays.at)))));
             dir = leaves.dir;
             last = paused-here wire past v ∙ leaves.stop (paused wire past);
             waits_or_due = inl (waits-here leaves.dir wire past v ∙ (side-waits _ _ (side_held leaves.dir h') (leaves.sides leaves.dir) ∙ leaves.waits));
@@ -587,7 +593,8 @@ module _ (s : Session) (wire key : ℕ) (past : Pieces) (dials : List Answered) 
 
 -- ---- both
 
-pub goes-first : (s : Session) (wire : ℕ) (past : Pieces) (r0 r1 : Option (List Event)) (old new : Core) (c : Slot) → is_built s ≡ true → Shows past (map shown old.sources) → IsNew wire past → IsBetweenCalls old →
+pub goes-first : (s : Session) (wire : ℕ) (past : Pieces) (r0 r1 : Option (List Event)) (old new : Core) (c : Slot) →
+    is_built s ≡ true → Shows past (map shown old.sources) → IsNew wire past → IsBetweenCalls old →
     FirstVisits s wire r0 r1 old new c → (v : List Event) × VisitInRecord s wire past r0 r1 old new c v
 goes-first s wire past r0 r1 old new c built shows fresh rests (visited.undialled dials failure e to awake still is says) =
     let went : VisitInRecord s wire past r0 r1 old old (slot.Ended (record { ending = failure; written = []; leftover = []; wire = wire; moment = None })) (dials_of wire dials) =
@@ -599,23 +606,28 @@ goes-first s wire past r0 r1 old new c built shows fresh rests (visited.dialled 
     let M : Option (List Event) → Type 0 = λ x. MakesRegisteredVisit wire key (told x (event.Add wire key true ∷ [])) r1 mid new client c in
     opened-goes s wire key past dials wired r0 r1 old mid new talk client built fresh shows to.through r.begins r.stands r.unwritten r.free r.core r.shows c (subst M to.gained r.stays)
 
-again-found : (s : Session) (wire key : ℕ) (past : Pieces) (r0 r1 : Option (List Event)) (old new : Core) (c : Opening) (talk : List (List ℕ) → Said) (b : List ℕ) (paused-so : Option Dir) (sl : Sleeper) (h h' : Held)
-    (calls : List Event) (o : Option (List Event)) → s.deadline ≡ None → Shows past (map shown old.sources) → StandsIn talk b c → course s (part wire (pieces.told past)) ≡ Some (stands_at s.party talk b c paused-so) →
+again-found : (s : Session) (wire key : ℕ) (past : Pieces) (r0 r1 : Option (List Event)) (old new : Core)
+    (c : Opening) (talk : List (List ℕ) → Said) (b : List ℕ) (paused-so : Option Dir) (sl : Sleeper) (h h' : Held)
+    (calls : List Event) (o : Option (List Event)) → s.deadline ≡ None → Shows past (map shown old.sources) →
+    StandsIn talk b c → course s (part wire (pieces.told past)) ≡ Some (stands_at s.party talk b c paused-so) →
     is_ended (outcome_in false (stands_at s.party talk b c paused-so).progress) ≡ false → RegisteredVisit wire key r0 r1 old new c (slot.Asleep sl) h h' calls o →
     (b' : List ℕ) × Pauses talk b c sl.client calls b' → (arm : List Event) × (o ≡ Some arm) → (v : List Event) × VisitInRecord s wire past r0 r1 old new (slot.Asleep sl) v
 again-found s wire key past r0 r1 old new c talk b paused-so sl h h' calls o built shows stands came open_ x (b', goes) (arm, is) =
     (calls ++ arms_told o, again-asleep s wire key past r0 r1 old new c talk b paused-so built shows stands came open_ sl h h' calls o b' x goes arm is)
 
-again-by : (s : Session) (wire key : ℕ) (past : Pieces) (r0 r1 : Option (List Event)) (old new : Core) (c : Opening) (talk : List (List ℕ) → Said) (b : List ℕ) (paused-so : Option Dir) (c' : Slot) → s.deadline ≡ None →
+again-by : (s : Session) (wire key : ℕ) (past : Pieces) (r0 r1 : Option (List Event)) (old new : Core) (c : Opening)
+    (talk : List (List ℕ) → Said) (b : List ℕ) (paused-so : Option Dir) (c' : Slot) → s.deadline ≡ None →
     Shows past (map shown old.sources) → StandsIn talk b c → course s (part wire (pieces.told past)) ≡ Some (stands_at s.party talk b c paused-so) →
-    is_ended (outcome_in false (stands_at s.party talk b c paused-so).progress) ≡ false → MakesRegisteredVisit wire key r0 r1 old new c c' → (v : List Event) × VisitInRecord s wire past r0 r1 old new c' v
+    is_ended (outcome_in false (stands_at s.party talk b c paused-so).progress) ≡ false →
+    MakesRegisteredVisit wire key r0 r1 old new c c' → (v : List Event) × VisitInRecord s wire past r0 r1 old new c' v
 again-by s wire key past r0 r1 old new c talk b paused-so (slot.Ended e) built shows stands came open_ (h, h', calls, o, x) =
     (calls ++ event.Delete wire key true ∷ [], again-ended s wire key past r0 r1 old new c talk b paused-so built shows stands came open_ e h h' calls o x)
 again-by s wire key past r0 r1 old new c talk b paused-so (slot.Asleep sl) built shows stands came open_ (h, h', calls, o, x) =
     again-found s wire key past r0 r1 old new c talk b paused-so sl h h' calls o built shows stands came open_ x (x.stays.goes talk b stands) (some-arms o x.stays.over)
 again-by s wire key past r0 r1 old new c talk b paused-so slot.Refused built shows stands came open_ (h, h', calls, o, x) = absurd x.stays
 
-pub goes-again : (s : Session) (wire : ℕ) (past : Pieces) (r0 r1 : Option (List Event)) (old new : Core) (sl : Sleeper) (pending : List ℕ) (c : Slot) → is_built s ≡ true → Shows past (map shown old.sources) →
+pub goes-again : (s : Session) (wire : ℕ) (past : Pieces) (r0 r1 : Option (List Event)) (old new : Core)
+    (sl : Sleeper) (pending : List ℕ) (c : Slot) → is_built s ≡ true → Shows past (map shown old.sources) →
     Stands s wire pending past (slot.Asleep sl) → MakesRegisteredVisit wire sl.key r0 r1 old new sl.client c → (v : List Event) × VisitInRecord s wire past r0 r1 old new c v
 goes-again s wire past r0 r1 old new sl pending c built shows is stays =
     let begin : Course = stands_at s.party is.talking.talk is.talking.got sl.client (Some is.talking.dir) in

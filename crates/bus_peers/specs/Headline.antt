@@ -17,17 +17,18 @@ use Rattle.bus_peers.specs.declared.open.OpenError.TheVariants as open_err
 use Rattle.bus_visit.specs.Counts.{waits_in, after_begun}
 use Rattle.bus_peers.specs.Counts.{is_delete}
 
--- The events that a call told, at Ok: cut into pieces they have the headline, each interest that a visit armed was begun in
--- the reactor, and so was each round.
-pub record Opened (sessions : List Session) (rounds : ℕ) (old new : Core) (endeds : List Ended) (events : List Event) : Type 0 where
+-- The events that a call told, at Ok: cut into pieces they have the headline, each interest that a visit armed was
+-- begun in the reactor, and so was each round.
+pub record Opened (sessions : List Session) (rounds : ℕ) (old new : Core) (endeds : List Ended)
+    (events : List Event) : Type 0 where
   pub pieces : Pieces
   pub headline : Headline sessions rounds pieces endeds events
   pub interests : new.begun ≡ after_begun old.begun (armings_in pieces)
   pub rounds_begun : new.ticker ≡ old.ticker + rounds_in pieces
   pub timers_made : new.made ≡ old.made
 
--- The round's number was needed, and the last one stood at its type's end: all visits due were made, a session slept, and a
--- round was left. What was told after that is of the removals.
+-- The round's number was needed, and the last one stood at its type's end: all visits due were made, a session
+-- slept, and a round was left. What was told after that is of the removals.
 pub record Exhausts (sessions : List Session) (rounds : ℕ) (old : Core) (events : List Event) : Type 0 where
   pub pieces : Pieces
   pub removals : List Event
@@ -50,7 +51,8 @@ RefusedWith sessions rounds old new (Ok v) events = Unit {0}
 RefusedWith sessions rounds old new (Err open_err.OutOfMemory) events = Unit {0}
 RefusedWith sessions rounds old new (Err open_err.Poller) events = new.ticker ≡ old.ticker + waits_in events
 RefusedWith sessions rounds old new (Err (open_err.Exhausted c value)) events =
-    (c ≡ counter.Round) × (value ≡ 2 ^ 64 - 1) × (new.ticker ≡ old.ticker + waits_in events) × Exhausts sessions rounds old events
+    (c ≡ counter.Round) × (value ≡ 2 ^ 64 - 1) × (new.ticker ≡ old.ticker + waits_in events) ×
+    Exhausts sessions rounds old events
 
 -- The answer is Poller only where the poller's count rose, and Ok only where it stood.
 abbrev pub OpenCounted : {T : Type 0} → Result T OpenError → ℕ → ℕ → Type 0

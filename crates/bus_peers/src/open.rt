@@ -1,6 +1,7 @@
 //! Opening many sessions over one reactor.
 
-ghost use Rattle.std.specs.Prelude.{◌≡◌, ◌≢◌, ◌≤◌, ◌<◌, ◌^◌, ◌++◌, ◌+◌, ℕ, List, [], true, length, vec_capacity, OnOk, IfOk};
+ghost use Rattle.std.specs.Prelude.{◌≡◌, ◌≢◌, ◌≤◌, ◌<◌, ◌^◌, ◌++◌, ◌+◌, ℕ, List, [], true, length, vec_capacity};
+ghost use Rattle.std.specs.Prelude.{OnOk, IfOk};
 ghost use Rattle.std.specs.List.{list_all};
 ghost use Rattle.react_core.specs.Core.{IsIdle};
 ghost use Rattle.react_core.specs.Outer.{Keeps};
@@ -190,16 +191,17 @@ fn open_over<O: Outside>(
 
 /// Opens the sessions over any outside. Session i has wire i.
 ///
-/// Each is visited once, in order: it dials or takes the connection that its peer opened, registers its wire in the reactor, and
-/// has its conversation until that ends or its wire isn't ready. Then, while one sleeps and fewer than `rounds` rounds came, one
-/// more comes, and those that it makes due are visited. At the end the sources of those that still sleep are taken out.
+/// Each is visited once, in order: it dials or takes the connection that its peer opened, registers its wire in the
+/// reactor, and has its conversation until that ends or its wire isn't ready. Then, while one sleeps and fewer than
+/// `rounds` rounds came, one more comes, and those that it makes due are visited. At the end the sources of those
+/// that still sleep are taken out.
 ///
-/// At Ok, where the outside tells its record, each session has what its own part of the record alone decides, and the record is
-/// settled. Whether it tells or not, an ending is Connection only where the count of its wire's dialling rose, and Io only where
-/// that or the count of the wire's own faults did.
+/// At Ok, where the outside tells its record, each session has what its own part of the record alone decides, and
+/// the record is settled. Whether it tells or not, an ending is Connection only where the count of its wire's
+/// dialling rose, and Io only where that or the count of the wire's own faults did.
 ///
-/// Poller: the poller failed. Exhausted: a round's number was needed, and the reactor's counter stood at its end. After every
-/// answer the reactor is idle, and no timer was made.
+/// Poller: the poller failed. Exhausted: a round's number was needed, and the reactor's counter stood at its end.
+/// After every answer the reactor is idle, and no timer was made.
 pub fn open_all<O: Outside>(
     alloc: Global,
     reactor: &mut Reactor,

@@ -1,6 +1,7 @@
 //! Rounds: the reactor waits for all sessions that sleep, and those that a round wakes are visited.
 
-ghost use Rattle.std.specs.Prelude.{◌≡◌, ◌≢◌, ◌<◌, ◌^◌, ◌++◌, ◌∷◌, [], List, ℕ, map, length, true, false, Err, IfOk, OnOk, OnErr};
+ghost use Rattle.std.specs.Prelude.{◌≡◌, ◌≢◌, ◌<◌, ◌^◌, ◌++◌, ◌∷◌, [], List, ℕ, map, length, true, false, Err};
+ghost use Rattle.std.specs.Prelude.{IfOk, OnOk, OnErr};
 ghost use Rattle.bus_peers.specs.inside.RoundEvents.{Round};
 ghost use Rattle.react_core.specs.Outer.{Keeps};
 ghost use Rattle.react_core.specs.Outer as part;
@@ -12,7 +13,8 @@ ghost use Rattle.bus_peers.specs.inside.Due.{RisesFrom};
 ghost use Rattle.bus_peers.specs.declared.open.OpenError.TheVariants as open_err;
 ghost use Rattle.bus_peers.specs.inside.Due.{is_in};
 ghost use Rattle.bus_visit.specs.Shown.{IsBetweenCalls, tags, has_wire};
-ghost use Rattle.bus_peers.specs.inside.Slots.{Owned, AllOpen, VisitsKeepCall, RoundKeepsCall, RoundsSettleCall, Told, Refuses, Stuck};
+ghost use Rattle.bus_peers.specs.inside.Slots.{Owned, AllOpen, VisitsKeepCall, RoundKeepsCall, RoundsSettleCall};
+ghost use Rattle.bus_peers.specs.inside.Slots.{Told, Refuses, Stuck};
 ghost use Rattle.bus_peers.specs.inside.SlotFaults.{VisitsCounted};
 
 use crate::open::OpenError;

@@ -86,8 +86,8 @@ dial 0 open n
 modify fault
 ";
 
-/// Opens the script's sessions over a reactor that starts at this tick: the refusal, whether the reactor is idle, and how
-/// many sources were taken out.
+/// Opens the script's sessions over a reactor that starts at this tick: the refusal, whether the reactor is idle,
+/// and how many sources were taken out.
 fn refused(alloc: Global, script: &str, tick: u64) -> Result<(OpenError, bool, usize), Fail> {
     let Ok(played) = Scene::from_script(alloc, script.as_bytes(), ScriptForm::Play) else {
         return Err("script".into());

@@ -31,7 +31,7 @@ use Rattle.bus_visit.specs.Visited.{KeepsCall, MakesRegisteredVisit, Registers, 
 use Rattle.bus_visit.specs.Noted.{Holds}
 use Rattle.bus_visit.specs.laws.Dials.{dials-waits}
 use Rattle.bus_visit.specs.laws.Sources.{held_at-shown, with_new-shown}
-use Rattle.bus_visit.proofs.PollInVisit.{keeps-after}
+use Rattle.bus_visit.proofs.TurnLemmas.{keeps-after}
 use Rattle.bus_visit.proofs.NewTags.{with_tag, tags-with_new, source-no_tag, tag_at-with, other_tag-with, other_wire-with, single-with, without-with}
 use Rattle.bus_visit.specs.laws.Tags.{tag-held, single-distinct, distinct-single}
 
@@ -45,7 +45,9 @@ refused-by (Err e) f h = f h
 
 -- ---- a new source
 
-sane_go : (r l key wire : ℕ) (x : ℕ × Source) (sources : List (ℕ × Source)) (b : Bool) → nat_lt key x.0 ≡ b → AllSane r l (x ∷ sources) → AllSane r l (with_new sources key (new_source wire)) → AllSane r l (with_new (x ∷ sources) key (new_source wire))
+sane_go : (r l key wire : ℕ) (x : ℕ × Source) (sources : List (ℕ × Source)) (b : Bool) → nat_lt key x.0 ≡ b →
+    AllSane r l (x ∷ sources) → AllSane r l (with_new sources key (new_source wire)) →
+    AllSane r l (with_new (x ∷ sources) key (new_source wire))
 sane_go r l key wire x sources true e sane ih = rw e (((omega arith, tt, refl), (omega arith, tt, refl)), sane)
 sane_go r l key wire x sources false e sane ih = rw e (sane.0, ih)
 
@@ -83,12 +85,15 @@ module _ (old mid : Core) (wire key : ℕ) (free : source_of old.sources key ≡
   tags-back = ap (λ ts. without_tag ts key) tags-inserted ∙ without-with (tags old.sources) key wire (source-no_tag old.sources key free)
 
   -- the visit was refused, and the source taken out
-  pub inserted-keeps : (r0 r1 r2 : Option (List Event)) (new : Core) → r1 ≡ told r0 (event.Add wire key true ∷ []) → KeepsCall (without_tag (tags mid.sources) key) r1 r2 mid new → KeepsCall (tags old.sources) r0 r2 old new
+  pub inserted-keeps : (r0 r1 r2 : Option (List Event)) (new : Core) → r1 ≡ told r0 (event.Add wire key true ∷ []) →
+      KeepsCall (without_tag (tags mid.sources) key) r1 r2 mid new → KeepsCall (tags old.sources) r0 r2 old new
   inserted-keeps r0 r1 r2 new added keeps =
       let K : Tags → Type 0 = λ ts. KeepsCall ts r1 r2 mid new in
       keeps-after (tags old.sources) r0 r1 r2 old mid new (event.Add wire key true ∷ []) added refl (ap (λ c. c.ticker) is) (ap (λ c. c.made) is) (subst K tags-back keeps)
 
-  pub inserted-tags : (r1 r2 : Option (List Event)) (new : Core) (client : Opening) (c : Slot) → has_wire wire (tags old.sources) ≡ false → MakesRegisteredVisit wire key r1 r2 mid new client c → FirstTags wire (tags old.sources) (tags new.sources) c
+  pub inserted-tags : (r1 r2 : Option (List Event)) (new : Core) (client : Opening) (c : Slot) →
+      has_wire wire (tags old.sources) ≡ false → MakesRegisteredVisit wire key r1 r2 mid new client c →
+      FirstTags wire (tags old.sources) (tags new.sources) c
   inserted-tags r1 r2 new client (slot.Ended e) new_wire (h, h', calls, o, x) = x.tags ∙ tags-back
   inserted-tags r1 r2 new client (slot.Asleep sl) new_wire (h, h', calls, o, x) =
       let ts : Tags = tags old.sources in
@@ -123,14 +128,23 @@ module _ (old mid : Core) (wire key : ℕ) (free : source_of old.sources key ≡
       )
 
 -- the insertion was refused
-pub insert-keeps : (wire : ℕ) (e : ReactError) (r0 r1 : Option (List Event)) (old new : Core) → IsBetweenCalls old → InsertTold old wire (Err e) r0 r1 → new ≡ old → KeepsCall (tags old.sources) r0 r1 old new
+pub insert-keeps : (wire : ℕ) (e : ReactError) (r0 r1 : Option (List Event)) (old new : Core) → IsBetweenCalls old →
+    InsertTold old wire (Err e) r0 r1 → new ≡ old → KeepsCall (tags old.sources) r0 r1 old new
 insert-keeps wire react_error.Poller r0 r1 old new rests (key, free, gained) same = (
   event.Add wire key false ∷ [],
   record { gained = gained; waits = refl; ticker = ap (λ c. c.ticker) same; made = ap (λ c. c.made) same; tags = ap (λ c. tags c.sources) same; closed = ap (λ c. c.hands) same ∙ rests.idle },
 )
 insert-keeps wire react_error.OutOfMemory r0 r1 old new rests gained same = (
   [],
-  record { gained = gained ∙ told-nothing r0; waits = refl; ticker = ap (λ c. c.ticker) same; made = ap (λ c. c.made) same; tags = ap (λ c. tags c.sources) same; closed = ap (λ c. c.hands) same ∙ rests.idle },
+  record {
+    gained = gained ∙ told-nothing r0;
+    waits = refl;
+    ticker = ap (λ c. c.ticker) same;
+    made = ap (λ c. c.made)
+        same;
+    tags = ap (λ c. tags c.sources) same;
+    closed = ap (λ c. c.hands) same ∙ rests.idle;
+  },
 )
 insert-keeps wire (react_error.Exhausted counter value) r0 r1 old new rests gained same = absurd gained
 

@@ -2,8 +2,8 @@ pub mod NewTags
 pub mod PollChangesSources
 pub mod NotReadyNotes
 pub mod OtherWiresStay
-pub mod PollInRecord
-pub mod PollInVisit
+pub mod PollAlone
+pub mod TurnLemmas
 pub mod VisitFrames
 pub mod StayLemmas
 pub mod FirstVisit

@@ -30,7 +30,8 @@ pub tag_at-with : (ts : Tags) (key wire : ℕ) → tag_at ts key ≡ None → ta
 tag_at-with [] key wire free = rw (eq-eqb key key refl) refl
 tag_at-with (t ∷ ts) key wire free = at_go t ts key wire (t.0 == key) (nat_lt key t.0) refl refl free (tag_at-with ts key wire)
 
-others_go : (t : ℕ × ℕ) (ts : Tags) (key wire k : ℕ) (b c : Bool) → (t.0 == k) ≡ b → nat_lt key t.0 ≡ c → k ≢ key → tag_at (with_tag ts key wire) k ≡ tag_at ts k → tag_at (with_tag (t ∷ ts) key wire) k ≡ tag_at (t ∷ ts) k
+others_go : (t : ℕ × ℕ) (ts : Tags) (key wire k : ℕ) (b c : Bool) → (t.0 == k) ≡ b → nat_lt key t.0 ≡ c → k ≢ key →
+    tag_at (with_tag ts key wire) k ≡ tag_at ts k → tag_at (with_tag (t ∷ ts) key wire) k ≡ tag_at (t ∷ ts) k
 others_go t ts key wire k b true e f other ih = rw (f, ne_eqb key k (λ g. other (sym g))) refl
 others_go t ts key wire k true false e f other ih = rw (f, e) refl
 others_go t ts key wire k false false e f other ih = rw (f, e) ih
@@ -46,7 +47,9 @@ swap true false c = refl
 swap false true c = refl
 swap false false c = refl
 
-wire_go : (t : ℕ × ℕ) (ts : Tags) (key wire w : ℕ) (b : Bool) → nat_lt key t.0 ≡ b → has_wire w (with_tag ts key wire) ≡ ((wire == w) || has_wire w ts) → has_wire w (with_tag (t ∷ ts) key wire) ≡ ((wire == w) || has_wire w (t ∷ ts))
+wire_go : (t : ℕ × ℕ) (ts : Tags) (key wire w : ℕ) (b : Bool) → nat_lt key t.0 ≡ b →
+    has_wire w (with_tag ts key wire) ≡ ((wire == w) || has_wire w ts) →
+    has_wire w (with_tag (t ∷ ts) key wire) ≡ ((wire == w) || has_wire w (t ∷ ts))
 wire_go t ts key wire w true e ih = rw e refl
 wire_go t ts key wire w false e ih = rw (e, ih) (swap (t.1 == w) (wire == w) (has_wire w ts))
 
@@ -58,7 +61,9 @@ has_wire-with (t ∷ ts) key wire w = wire_go t ts key wire w (nat_lt key t.0) r
 pub other_wire-with : (ts : Tags) (key wire w : ℕ) → w ≢ wire → has_wire w (with_tag ts key wire) ≡ has_wire w ts
 other_wire-with ts key wire w other = has_wire-with ts key wire w ∙ ap (λ b. b || has_wire w ts) (ne_eqb wire w (λ g. other (sym g)))
 
-single_with : (t : ℕ × ℕ) (ts : Tags) (key wire : ℕ) (b : Bool) → nat_lt key t.0 ≡ b → has_wire wire (t ∷ ts) ≡ false → Single (t ∷ ts) → Single (with_tag ts key wire) → Single (with_tag (t ∷ ts) key wire)
+single_with : (t : ℕ × ℕ) (ts : Tags) (key wire : ℕ) (b : Bool) → nat_lt key t.0 ≡ b →
+    has_wire wire (t ∷ ts) ≡ false → Single (t ∷ ts) → Single (with_tag ts key wire) →
+    Single (with_tag (t ∷ ts) key wire)
 single_with t ts key wire true e none single ih = rw e (none, single)
 single_with t ts key wire false e none single ih =
     let p = or_parts (t.1 == wire) (has_wire wire ts) none in

@@ -107,7 +107,9 @@ side-wire : (dir : Dir) (s : Source) (i : Direction) → (with_side dir s i).wir
 side-wire Read s i = refl
 side-wire Write s i = refl
 
-poll-tags : (core : Core) (key : ℕ) (dir : Dir) (s : Source) (task : ℕ) (b : Side) → source_of core.sources key ≡ Some s → tags (after_source_poll core key (Some s) dir task (poll_of b)).sources ≡ tags core.sources
+poll-tags : (core : Core) (key : ℕ) (dir : Dir) (s : Source) (task : ℕ) (b : Side) →
+    source_of core.sources key ≡ Some s → tags (after_source_poll core key (Some s) dir task (poll_of b)).sources ≡
+    tags core.sources
 poll-tags core key dir s task Idle is = tags-with_source core.sources key s _ is (side-wire dir s _)
 poll-tags core key dir s task Waits is = refl
 poll-tags core key dir s task Reported is = tags-with_source core.sources key s _ is (side-wire dir s _)
@@ -120,11 +122,14 @@ or_true : (wire key : ℕ) (b : Bool) → event.Modify wire key b true true ∷ 
 or_true wire key true = refl
 or_true wire key false = refl
 
-armed-shown : (round last : ℕ) (dir : Dir) (key : ℕ) (s : Source) → SaneSource round last s → side_held dir (shown_at key s) ≡ Idle → armed (Some s) key dir true ≡ arming (stopped_held dir (shown_at key s))
+armed-shown : (round last : ℕ) (dir : Dir) (key : ℕ) (s : Source) → SaneSource round last s →
+    side_held dir (shown_at key s) ≡ Idle → armed (Some s) key dir true ≡ arming (stopped_held dir (shown_at key s))
 armed-shown round last Read key s sane e = rw (waits-side s.write sane.1.2, e) refl
 armed-shown round last Write key s sane e = rw (waits-side s.read sane.0.2, e) (or_true s.wire key (waits (side_of s.read)))
 
-poll-told : (round last : ℕ) (dir : Dir) (key : ℕ) (s : Source) (b : Side) → SaneSource round last s → side_held dir (shown_at key s) ≡ b → (if arms (poll_of b) then armed (Some s) key dir true else []) ≡ arms_told (arms_at dir (shown_at key s) b)
+poll-told : (round last : ℕ) (dir : Dir) (key : ℕ) (s : Source) (b : Side) → SaneSource round last s →
+    side_held dir (shown_at key s) ≡ b →
+    (if arms (poll_of b) then armed (Some s) key dir true else []) ≡ arms_told (arms_at dir (shown_at key s) b)
 poll-told round last dir key s Idle sane e = armed-shown round last dir key s sane e
 poll-told round last dir key s Waits sane e = refl
 poll-told round last dir key s Reported sane e = refl
@@ -158,7 +163,8 @@ held-source sources key h is = source_shown key (source_of sources key) h (sym (
 pub holds-source : (core : Core) (key wire : ℕ) → Holds core key wire → HasSource core key
 holds-source core key wire (h, is, own) = let (s, at, e) = held-source core.sources key h is in rw at refl
 
-readied-at : (old new : Core) (wire key : ℕ) (dir : Dir) (answer : Poll (Unit {0})) (r0 r1 : Option (List Event)) (s : Source) → IsBetweenCalls old → source_of old.sources key ≡ Some s → s.wire ≡ wire →
+readied-at : (old new : Core) (wire key : ℕ) (dir : Dir) (answer : Poll (Unit {0})) (r0 r1 : Option (List Event))
+    (s : Source) → IsBetweenCalls old → source_of old.sources key ≡ Some s → s.wire ≡ wire →
     Step old (PolledPoll key dir wire) (Polled answer) (woken_by (poll_outcome old key dir wire)) new →
     r1 ≡ told r0 (poll_told old key dir wire (Ok answer)) →
     NotReadyNoted wire key dir r0 r1 old new (is_ready answer) (shown_at key s)
@@ -170,11 +176,16 @@ readied-at old new wire key dir answer r0 r1 s rests is own step gained =
     let P : ℕ → Type 0 = λ w. direction_outcome w (side dir s) ≡ poll_of b in
     let out : poll_outcome old key dir wire ≡ poll_of b = ap (λ o. source_outcome o dir wire) is ∙ subst P own by in
     let C : Option Source → Outcome → ℕ → Core = λ o p w. after_source_poll old key o dir w p in
-    let core : new ≡ after_source_poll old key (Some s) dir s.wire (poll_of b) = step.core ∙ (ap (λ p. C (source_of old.sources key) p wire) out ∙ (ap (λ o. C o (poll_of b) wire) is ∙ ap (λ w. C (Some s) (poll_of b) w) (sym own))) in
+    let core : new ≡ after_source_poll old key (Some s) dir s.wire (poll_of b) =
+    step.core ∙
+    (ap (λ p. C (source_of old.sources key) p wire) out ∙
+    (ap (λ o. C o (poll_of b) wire) is ∙ ap (λ w. C (Some s) (poll_of b) w) (sym own))) in
     let answered : answer ≡ poll_answer (poll_of b) = step.answered ∙ ap poll_answer out in
     let G : Option Source → Outcome → Option (List Event) = λ o p. told r0 (if arms p then armed o key dir true else []) in
     let told' : r1 ≡ told r0 (if arms (poll_of b) then armed (Some s) key dir true else []) = gained ∙ (ap (λ p. G (source_of old.sources key) p) out ∙ ap (λ o. G o (poll_of b)) is) in
-    let shows' : map shown new.sources ≡ noted wire dir (map shown old.sources) = ap (λ c. map shown c.sources) core ∙ (poll-noted old key dir s s.wire b refl is rests.distinct ∙ ap (λ w. noted w dir (map shown old.sources)) own) in
+    let shows' : map shown new.sources ≡ noted wire dir (map shown old.sources) =
+    ap (λ c. map shown c.sources) core ∙
+    (poll-noted old key dir s s.wire b refl is rests.distinct ∙ ap (λ w. noted w dir (map shown old.sources)) own) in
     record {
       was = at;
       wired = own;

@@ -50,7 +50,8 @@ pub apart-source : (wire : ℕ) (sources : List (ℕ × Source)) (key : ℕ) (s 
 apart-source wire [] key s apart is = cc
 apart-source wire (x ∷ sources) key s apart is = apart_other wire x sources key s (x.0 == key) refl apart.0 is (apart-source wire sources key s apart.1)
 
-go : (dir : Dir) (x : ℕ × Source) (sources : List (ℕ × Source)) (key : ℕ) (s new : Source) (b : Bool) → (x.0 == key) ≡ b → source_of (x ∷ sources) key ≡ Some s → shown_at key new ≡ stopped_held dir (shown_at key s) →
+go : (dir : Dir) (x : ℕ × Source) (sources : List (ℕ × Source)) (key : ℕ) (s new : Source) (b : Bool) →
+    (x.0 == key) ≡ b → source_of (x ∷ sources) key ≡ Some s → shown_at key new ≡ stopped_held dir (shown_at key s) →
     Distinct (map shown (x ∷ sources)) →
     (source_of sources key ≡ Some s → map shown (with_source sources key new) ≡ noted s.wire dir (map shown sources)) →
     map shown (with_source (x ∷ sources) key new) ≡ noted s.wire dir (map shown (x ∷ sources))
@@ -95,7 +96,8 @@ stays_shows : (dir : Dir) (key : ℕ) (s : Source) → side_held dir (shown_at k
 stays_shows Read key s e = rw e refl
 stays_shows Write key s e = rw e refl
 
-fires_shows : (dir : Dir) (key : ℕ) (s : Source) → side_held dir (shown_at key s) ≡ Reported → shown_at key (with_side dir s (record (side dir s) { polled = None })) ≡ stopped_held dir (shown_at key s)
+fires_shows : (dir : Dir) (key : ℕ) (s : Source) → side_held dir (shown_at key s) ≡ Reported →
+    shown_at key (with_side dir s (record (side dir s) { polled = None })) ≡ stopped_held dir (shown_at key s)
 fires_shows Read key s e = rw e refl
 fires_shows Write key s e = rw e refl
 

@@ -13,20 +13,19 @@ use Rattle.react_core.specs.declared.outside.Event.TheVariants as event
 use Rattle.bus_opening.specs.Openings.{Opening}
 use Rattle.bus_session.specs.declared.ended.Ending.{Ending}
 use Rattle.bus_session.specs.declared.ended.Ended.{Ended}
-use Rattle.bus_visit.specs.declared.visiting.PollEnd.{PollEnd}
-use Rattle.bus_visit.specs.declared.visiting.PollEnd.TheVariants as poll_end
+use Rattle.bus_visit.specs.Visited as turn_end
 use Rattle.bus_visit.specs.declared.visiting.Slot.TheVariants as slot
 use Rattle.bus_visit.specs.Registry.{Held, held_at, registry, without_held}
 use Rattle.bus_visit.specs.Counts.{waits_in}
 use Rattle.bus_visit.specs.Shown.{IsBetweenCalls, shown, tags, tag_at, without_tag, AllSane, Single}
-use Rattle.bus_visit.specs.Visited.{KeepsCall, VisitPolls, MakesRegisteredVisit}
+use Rattle.bus_visit.specs.Visited.{TurnEnd, KeepsCall, Turns, MakesRegisteredVisit}
 use Rattle.bus_visit.specs.Noted.{Holds, arms_told}
 use Rattle.bus_visit.specs.laws.Records.{registry-append, waits_in-append}
 use Rattle.bus_visit.specs.laws.Sources.{without-shown}
 use Rattle.bus_visit.proofs.NotReadyNotes.{held-source}
 use Rattle.bus_visit.proofs.OtherWiresStay.{without-keeps, two-keys}
 use Rattle.bus_visit.specs.laws.Tags.{tags-without, tag-has_source, held-tag, distinct-single, single-distinct, single-without}
-use Rattle.bus_visit.proofs.PollInVisit.{keeps-after}
+use Rattle.bus_visit.proofs.TurnLemmas.{keeps-after}
 
 -- ---- a source is taken out
 
@@ -39,7 +38,8 @@ removed-told (Some s) key (Err react_error.Poller) before after h = (event.Delet
 removed-told (Some s) key (Err react_error.OutOfMemory) before after h = ([], h ∙ told-nothing before, refl)
 removed-told (Some s) key (Err (react_error.Exhausted counter value)) before after h = absurd h
 
-sane_without_go : (r l : ℕ) (x : ℕ × Source) (sources : List (ℕ × Source)) (key : ℕ) (b : Bool) → (x.0 == key) ≡ b → AllSane r l (x ∷ sources) → AllSane r l (without sources key) → AllSane r l (without (x ∷ sources) key)
+sane_without_go : (r l : ℕ) (x : ℕ × Source) (sources : List (ℕ × Source)) (key : ℕ) (b : Bool) → (x.0 == key) ≡ b →
+    AllSane r l (x ∷ sources) → AllSane r l (without sources key) → AllSane r l (without (x ∷ sources) key)
 sane_without_go r l x sources key true e sane ih = rw e sane.1
 sane_without_go r l x sources key false e sane ih = rw e (sane.0, ih)
 
@@ -76,7 +76,7 @@ keeps-removed key r r0 r1 r2 old mid new (first, k) is gone =
       },
     )
 
-pub kept-turns : (wire key : ℕ) (r0 r1 : Option (List Event)) (old mid : Core) (c c' : Opening) (t : PollEnd) → VisitPolls wire key r0 r1 old mid c c' t → KeepsCall (tags old.sources) r0 r1 old mid
+pub kept-turns : (wire key : ℕ) (r0 r1 : Option (List Event)) (old mid : Core) (c c' : Opening) (t : TurnEnd) → Turns wire key r0 r1 old mid c c' t → KeepsCall (tags old.sources) r0 r1 old mid
 kept-turns wire key r0 r1 old mid c c' t (h, h', es, o, a) = (
   es ++ arms_told o,
   record {
@@ -89,12 +89,12 @@ kept-turns wire key r0 r1 old mid c c' t (h, h', es, o, a) = (
   },
 )
 
-pub turns-source : (wire key : ℕ) (r0 r1 : Option (List Event)) (old mid : Core) (c c' : Opening) (t : PollEnd) → Holds old key wire → VisitPolls wire key r0 r1 old mid c c' t → HasSource mid key
+pub turns-source : (wire key : ℕ) (r0 r1 : Option (List Event)) (old mid : Core) (c c' : Opening) (t : TurnEnd) → Holds old key wire → Turns wire key r0 r1 old mid c c' t → HasSource mid key
 turns-source wire key r0 r1 old mid c c' t holds (h, h', es, o, a) = kept-source old mid key wire holds a.tags
 
 -- ---- what a visit comes to
 
-pub stays-asleep : (wire key : ℕ) (r0 r1 : Option (List Event)) (old new : Core) (c c' : Opening) → VisitPolls wire key r0 r1 old new c c' poll_end.Asleep →
+pub stays-asleep : (wire key : ℕ) (r0 r1 : Option (List Event)) (old new : Core) (c c' : Opening) → Turns wire key r0 r1 old new c c' turn_end.Asleep →
     MakesRegisteredVisit wire key r0 r1 old new c (slot.Asleep (record { key = key; client = c' }))
 stays-asleep wire key r0 r1 old new c c' (h, h', es, o, a) = (
   h,
@@ -135,7 +135,7 @@ no-tail : (es : List Event) (o : Option (List Event)) → o ≡ None → waits_i
 no-tail es o e none = ap waits_in (sym (append-nil es)) ∙ (ap (λ x. waits_in (es ++ arms_told x)) (sym e) ∙ none)
 
 stays-over : (wire key : ℕ) (r0 r1 r2 : Option (List Event)) (old mid : Core) (c c' : Opening) (e : Ending) →
-    VisitPolls wire key r0 r1 old mid c c' (poll_end.Over e) → r2 ≡ told r1 (event.Delete wire key true ∷ []) →
+    Turns wire key r0 r1 old mid c c' (turn_end.Over e) → r2 ≡ told r1 (event.Delete wire key true ∷ []) →
     MakesRegisteredVisit wire key r0 r2 old (removed mid key) c (slot.Ended (record { ending = e; written = c'.written; leftover = c'.rest; wire = wire; moment = None }))
 stays-over wire key r0 r1 r2 old mid c c' e (h, h', es, o, a) gone =
     let tail : List Event = event.Delete wire key true ∷ [] in
@@ -166,7 +166,7 @@ stays-over wire key r0 r1 r2 old mid c c' e (h, h', es, o, a) gone =
     )
 
 pub stays-ended : {T : Type 0} (wire key : ℕ) (r0 r1 r2 : Option (List Event)) (old mid new : Core) (c c' : Opening) (e : Ending) (v : T) (ended : Ended) →
-    VisitPolls wire key r0 r1 old mid c c' (poll_end.Over e) → new ≡ removed mid key → RemoveTold (source_of mid.sources key) key (Ok v) r1 r2 →
+    Turns wire key r0 r1 old mid c c' (turn_end.Over e) → new ≡ removed mid key → RemoveTold (source_of mid.sources key) key (Ok v) r1 r2 →
     ended ≡ record { ending = e; written = c'.written; leftover = c'.rest; wire = wire; moment = None } → MakesRegisteredVisit wire key r0 r2 old new c (slot.Ended ended)
 stays-ended wire key r0 r1 r2 old mid new c c' e v ended (h, h', es, o, a) is gone value =
     let gone' : r2 ≡ told r1 (event.Delete wire key true ∷ []) = removed-at wire key mid.sources h' v r1 r2 a.wired' a.now gone in

@@ -1,12 +1,9 @@
 -- What the calls of a visit keep of the outside, and which counts they raise.
-use Rattle.std.proofs.Common.{◌≡◌, ◌≤◌, inr, ℕ, Option, Some, None, Result, Ok, Err, Bool, true, false, if◌then◌else◌, sym, subst}
+use Rattle.std.proofs.Common.{◌≡◌, ◌≤◌, inr, ℕ, true, sym, subst}
 use Rattle.react_core.specs.Outer.{Outer, Keeps, keeps-then, wire-in-visit, poller-in-visit}
 use Rattle.react_core.specs.Outer as part
-use Rattle.bus_opening.specs.Polling.{IoCounted}
-use Rattle.bus_opening.specs.declared.verdict.Step.TheVariants as step
-use Rattle.bus_opening.specs.declared.verdict.Step as steps
-use Rattle.bus_opening.specs.declared.verdict.Verdict.{Verdict}
-use Rattle.bus_opening.specs.declared.verdict.Verdict.TheVariants as verdict
+use Rattle.bus_visit.specs.declared.conversing.Conversed.{Conversed}
+use Rattle.bus_visit.specs.declared.conversing.Conversed.TheVariants as conversed
 use Rattle.bus_session.specs.declared.ended.Ending.{Ending}
 use Rattle.bus_session.specs.declared.ended.Ending.TheVariants as ending
 use Rattle.bus_session.specs.declared.ended.Ended.{Ended}
@@ -14,47 +11,50 @@ use Rattle.bus_visit.specs.declared.dialling.Dialled.{Dialled}
 use Rattle.bus_visit.specs.declared.dialling.Dialled.TheVariants as dialleds
 use Rattle.bus_visit.specs.declared.dialling.Reached.{Reached}
 use Rattle.bus_visit.specs.declared.visiting.Slot.{Slot}
-use Rattle.bus_visit.specs.declared.visiting.PollEnd.{PollEnd}
-use Rattle.bus_visit.specs.declared.visiting.PollEnd.TheVariants as poll_end
-use Rattle.bus_visit.specs.Conversed.{is_awake, ending_of}
-use Rattle.bus_visit.specs.Faults.{EndingCounted, DialCounted, PollEndCounted, SlotCounted}
+use Rattle.bus_visit.specs.Conversed.{is_awake, ConversedCounted}
+use Rattle.bus_visit.specs.Faults.{EndingCounted, DialCounted, SlotCounted}
 use Rattle.bus_visit.specs.laws.Faults.{rose-rises, same-rises, rises-same, rises-visit, ending-within, slot-within}
 
-pub io-rises : (answer : steps.Step) (a b : ℕ) → IoCounted answer a b → a ≤ b
-io-rises (step.Done (verdict.Authenticated settled)) a b counted = same-rises a b counted
-io-rises (step.Done verdict.Handshake) a b counted = same-rises a b counted
-io-rises (step.Done verdict.Io) a b counted = rose-rises a b counted
-io-rises (step.Done verdict.LineTooLong) a b counted = same-rises a b counted
-io-rises (step.Done verdict.TooManyCommands) a b counted = same-rises a b counted
-io-rises step.WantRead a b counted = same-rises a b counted
-io-rises step.WantWrite a b counted = same-rises a b counted
-io-rises step.OutOfMemory a b counted = same-rises a b counted
+pub conversed-rises : (answer : Result Conversed OutOfMemory) (a b : ℕ) → ConversedCounted answer a b → a ≤ b
+conversed-rises (Ok (conversed.Over (ending.Open guid cap_unix_fd))) a b counted = same-rises a b counted
+conversed-rises (Ok (conversed.Over ending.Unsupported)) a b counted = absurd counted
+conversed-rises (Ok (conversed.Over ending.Connection)) a b counted = absurd counted
+conversed-rises (Ok (conversed.Over ending.Io)) a b counted = rose-rises a b counted
+conversed-rises (Ok (conversed.Over ending.Handshake)) a b counted = same-rises a b counted
+conversed-rises (Ok (conversed.Over ending.LineTooLong)) a b counted = same-rises a b counted
+conversed-rises (Ok (conversed.Over ending.TooManyCommands)) a b counted = same-rises a b counted
+conversed-rises (Ok (conversed.Over ending.TimedOut)) a b counted = absurd counted
+conversed-rises (Ok (conversed.Over ending.Waiting)) a b counted = absurd counted
+conversed-rises (Ok (conversed.Paused dir)) a b counted = same-rises a b counted
+conversed-rises (Err e) a b counted = same-rises a b counted
 
 module _ {Origin : Type 0} where
   -- ---- a turn
 
-  -- a poll of the conversation
-  pub keeps-polled : (wire : ℕ) (answer : steps.Step) (a b : Outer Origin) → Keeps (part.Wire wire) a b → IoCounted answer (a.wire_faults wire) (b.wire_faults wire) → Keeps (part.Visit wire) a b
-  keeps-polled wire answer a b k counted = wire-in-visit wire a b k (io-rises answer _ _ counted)
+  -- the conversation was had
+  pub keeps-conversed : (wire : ℕ) (answer : Result Conversed OutOfMemory) (a b : Outer Origin) →
+      Keeps (part.Wire wire) a b → ConversedCounted answer (a.wire_faults wire) (b.wire_faults wire) →
+      Keeps (part.Visit wire) a b
+  keeps-conversed wire answer a b k counted = wire-in-visit wire a b k (conversed-rises answer _ _ counted)
 
   -- and then a call of the poller
-  pub keeps-noted : (wire : ℕ) (answer : steps.Step) (a b c : Outer Origin) → Keeps (part.Wire wire) a b → IoCounted answer (a.wire_faults wire) (b.wire_faults wire) → Keeps part.Poller b c → Keeps (part.Visit wire) a c
-  keeps-noted wire answer a b c k counted l = keeps-then (part.Visit wire) a b c (keeps-polled wire answer a b k counted) (poller-in-visit wire b c l)
+  pub keeps-noted : (wire : ℕ) (answer : Result Conversed OutOfMemory) (a b c : Outer Origin) →
+      Keeps (part.Wire wire) a b → ConversedCounted answer (a.wire_faults wire) (b.wire_faults wire) →
+      Keeps part.Poller b c → Keeps (part.Visit wire) a c
+  keeps-noted wire answer a b c k counted l =
+      keeps-then (part.Visit wire) a b c (keeps-conversed wire answer a b k counted) (poller-in-visit wire b c l)
 
-  verdict-counted : (wire : ℕ) (v : Verdict) (a b : Outer Origin) → IoCounted (step.Done v) (a.wire_faults wire) (b.wire_faults wire) → EndingCounted wire (ending_of v) a b
-  verdict-counted wire (verdict.Authenticated settled) a b counted = tt
-  verdict-counted wire verdict.Handshake a b counted = tt
-  verdict-counted wire verdict.Io a b counted = inr counted
-  verdict-counted wire verdict.LineTooLong a b counted = tt
-  verdict-counted wire verdict.TooManyCommands a b counted = tt
-
-  pub over-counted : (wire : ℕ) (v : Verdict) (e : Ending) (a b : Outer Origin) → e ≡ ending_of v → IoCounted (step.Done v) (a.wire_faults wire) (b.wire_faults wire) → EndingCounted wire e a b
-  over-counted wire v e a b is counted = let C : Ending → Type 0 = λ x. EndingCounted wire x a b in subst C (sym is) (verdict-counted wire v a b counted)
-
-  -- a turn that stops has no ending
-  pub stop-counted : (wire : ℕ) (again : Bool) (t : PollEnd) (a b : Outer Origin) → t ≡ (if again then poll_end.Again else poll_end.Asleep) → PollEndCounted wire t a b
-  stop-counted wire true t a b is = let C : PollEnd → Type 0 = λ x. PollEndCounted wire x a b in subst C (sym is) tt
-  stop-counted wire false t a b is = let C : PollEnd → Type 0 = λ x. PollEndCounted wire x a b in subst C (sym is) tt
+  pub over-counted : (wire : ℕ) (e : Ending) (a b : Outer Origin) →
+      ConversedCounted (Ok (conversed.Over e)) (a.wire_faults wire) (b.wire_faults wire) → EndingCounted wire e a b
+  over-counted wire (ending.Open guid cap_unix_fd) a b counted = tt
+  over-counted wire ending.Unsupported a b counted = absurd counted
+  over-counted wire ending.Connection a b counted = absurd counted
+  over-counted wire ending.Io a b counted = inr counted
+  over-counted wire ending.Handshake a b counted = tt
+  over-counted wire ending.LineTooLong a b counted = tt
+  over-counted wire ending.TooManyCommands a b counted = tt
+  over-counted wire ending.TimedOut a b counted = absurd counted
+  over-counted wire ending.Waiting a b counted = absurd counted
 
   -- one visit's call after others of it
   pub keeps-visit : (wire : ℕ) (a b c : Outer Origin) → Keeps (part.Visit wire) a b → Keeps part.Poller b c → Keeps (part.Visit wire) a c

@@ -40,9 +40,3 @@ asks a (e ∷ events) = asks (asking_next a e) events
 -- a visit that begins
 abbrev pub begins : Held → Asking
 begins h = record { held = h; over = None }
-
--- the direction that an answer of a wire pauses
-abbrev pub stop_of : Event → Option Dir
-stop_of (event.Recv w asked recv_answer.NotReady) = Some Read
-stop_of (event.Send w offered send_answer.NotReady) = Some Write
-stop_of e = None

@@ -7,13 +7,11 @@ use Rattle.bus_session.specs.declared.ended.Ending.TheVariants as ending
 use Rattle.bus_visit.specs.declared.dialling.Dialled.{Dialled}
 use Rattle.bus_visit.specs.declared.dialling.Dialled.TheVariants as dialled
 use Rattle.bus_visit.specs.Conversed.{is_awake}
-use Rattle.bus_visit.specs.declared.visiting.PollEnd.{PollEnd}
-use Rattle.bus_visit.specs.declared.visiting.PollEnd.TheVariants as poll_end
 use Rattle.bus_visit.specs.declared.visiting.Slot.{Slot}
 use Rattle.bus_visit.specs.declared.visiting.Slot.TheVariants as slot
 
--- The ending of a wire's session is Connection only where the count of its dialling rose, and Io only where that or the count of
--- the wire itself did.
+-- The ending of a wire's session is Connection only where the count of its dialling rose, and Io only where that or
+-- the count of the wire itself did.
 abbrev pub EndingCounted : {Origin : Type 0} → ℕ → Ending → Outer Origin → Outer Origin → Type 0
 EndingCounted wire (ending.Open guid cap_unix_fd) before after = Unit {0}
 EndingCounted wire (ending.Address reason) before after = Unit {0}
@@ -32,11 +30,10 @@ abbrev pub DialCounted : {Origin : Type 0} → ℕ → Dialled → Outer Origin 
 DialCounted wire (dialled.Opened w) before after = Unit {0}
 DialCounted wire (dialled.Failed e) before after = (is_awake e ≡ true) × EndingCounted wire e before after
 
--- how a poll ended
-abbrev pub PollEndCounted : {Origin : Type 0} → ℕ → PollEnd → Outer Origin → Outer Origin → Type 0
-PollEndCounted wire (poll_end.Over e) before after = EndingCounted wire e before after
-PollEndCounted wire poll_end.Again before after = Unit {0}
-PollEndCounted wire poll_end.Asleep before after = Unit {0}
+-- the ending that came, if one did
+abbrev pub OverCounted : {Origin : Type 0} → ℕ → Option Ending → Outer Origin → Outer Origin → Type 0
+OverCounted wire None before after = Unit {0}
+OverCounted wire (Some e) before after = EndingCounted wire e before after
 
 abbrev pub SlotCounted : {Origin : Type 0} → ℕ → Slot → Outer Origin → Outer Origin → Type 0
 SlotCounted wire (slot.Ended e) before after = EndingCounted wire e.ending before after

@@ -22,7 +22,8 @@ asks_again None = true
 asks_again (Some events) = false
 
 -- a NotReady of this direction was noted
-pub record NotReadyNoted (wire key : ℕ) (dir : Dir) (before after : Option (List Event)) (old new : Core) (again : Bool) (h : Held) : Type 0 where
+pub record NotReadyNoted (wire key : ℕ) (dir : Dir) (before after : Option (List Event)) (old new : Core)
+    (again : Bool) (h : Held) : Type 0 where
   pub was : held_at (map shown old.sources) key ≡ Some h
   pub wired : h.wire ≡ wire
   pub now : held_at (map shown new.sources) key ≡ Some (stopped_held dir h)

@@ -1,5 +1,6 @@
 -- The reactor's sources, as the record shows them.
-use Rattle.std.specs.Prelude.{◌≡◌, ◌<◌, ◌≤◌, ◌^◌, ℕ, Bool, true, false, nat_lt, ◌==◌, if◌then◌else◌, List, [], ◌∷◌, map, Option, Some, None}
+use Rattle.std.specs.Prelude.{◌≡◌, ◌<◌, ◌≤◌, ◌^◌, ℕ, Bool, true, false, nat_lt, ◌==◌, if◌then◌else◌, List, [], ◌∷◌}
+use Rattle.std.specs.Prelude.{map, Option, Some, None}
 use Rattle.std.specs.List.{list_any, list_all}
 use Rattle.react_core.specs.Places.{Entry, Direction, Source, round_number}
 use Rattle.react_core.specs.Core.{Core}
@@ -37,7 +38,8 @@ SanePlace task reported last (Some w) = (w.since ≤ last) × SaneTask task repo
 
 -- reports came in rounds up to the first number, interests began in rounds up to the second, and no future waits
 abbrev pub Sane : ℕ → ℕ → ℕ → Direction → Type 0
-Sane round last task d = (round_number d.reported ≤ round) × SanePlace task (round_number d.reported) last d.polled × (d.futures ≡ [])
+Sane round last task d =
+    (round_number d.reported ≤ round) × SanePlace task (round_number d.reported) last d.polled × (d.futures ≡ [])
 
 abbrev pub SaneSource : ℕ → ℕ → Source → Type 0
 SaneSource round last s = Sane round last s.wire s.read × Sane round last s.wire s.write

@@ -1,5 +1,6 @@
 -- What the parts of a visit do, whatever the record was before them.
-use Rattle.std.specs.Prelude.{◌≡◌, ◌≢◌, ◌<◌, ◌≤◌, ℕ, ◌+◌, Bool, true, false, List, [], ◌∷◌, ◌++◌, map, length, Option, Some, None, is_some, Result, Ok, Err}
+use Rattle.std.specs.Prelude.{◌≡◌, ◌≢◌, ◌<◌, ◌≤◌, ℕ, ◌+◌, Bool, true, false, List, [], ◌∷◌, ◌++◌, map, length}
+use Rattle.std.specs.Prelude.{Option, Some, None, is_some, Result, Ok, Err}
 use Rattle.react_core.specs.declared.outside.Event.{Event}
 use Rattle.react_core.specs.declared.outside.Event.TheVariants as event
 use Rattle.react_core.specs.Core.{Core, inserted}
@@ -10,8 +11,6 @@ use Rattle.bus_session.specs.declared.ended.Ending.{Ending}
 use Rattle.bus_session.specs.declared.ended.Ending.TheVariants as ending
 use Rattle.bus_session.specs.declared.ended.Ended.{Ended}
 use Rattle.bus_session.specs.declared.session.Session.{Session}
-use Rattle.bus_visit.specs.declared.visiting.PollEnd.{PollEnd}
-use Rattle.bus_visit.specs.declared.visiting.PollEnd.TheVariants as poll_end
 use Rattle.bus_visit.specs.declared.visiting.Slot.{Slot}
 use Rattle.bus_visit.specs.declared.visiting.Slot.TheVariants as slot
 use Rattle.react_core.specs.declared.reactor.ReactError.{ReactError}
@@ -35,7 +34,8 @@ VisitCounted (Err react_error.OutOfMemory) before now = before ≤ now
 VisitCounted (Err (react_error.Exhausted c value)) before now = ⊥
 
 -- What was told while no round came: the reactor has those wires under those keys, and its other numbers stand.
-pub record Kept (expected : Tags) (before after : Option (List Event)) (old new : Core) (more : List Event) : Type 0 where
+pub record Kept (expected : Tags) (before after : Option (List Event)) (old new : Core)
+    (more : List Event) : Type 0 where
   pub gained : after ≡ told before more
   pub waits : waits_in more ≡ 0
   pub ticker : new.ticker ≡ old.ticker
@@ -49,14 +49,22 @@ KeepsCall expected before after old new = (more : List Event) × Kept expected b
 
 -- ---- the calls of a conversation
 
--- how a poll ends, what it arms, and how the conversation stands then
-abbrev pub PollEndsAs : Opening → Opening → List Event → Option (List Event) → Held → PollEnd → Type 0
-PollEndsAs c c' calls o h (poll_end.Over e) = (o ≡ None) × (is_awake e ≡ true) × EndsAs c e c'.written c'.rest calls
-PollEndsAs c c' calls o h poll_end.Again = (o ≡ None) × (c'.ended ≡ false) × GoesOn c c' calls
-PollEndsAs c c' calls o h poll_end.Asleep = (is_some o ≡ true) × (c'.ended ≡ false) × GoesOn c c' calls
+-- how a turn of a visit ends: the session has ended; the direction was reported, so that the wire is asked again;
+-- or it waits
+pub data TurnEnd : Type 0 where
+  Over : Ending → TurnEnd
+  Again : TurnEnd
+  Asleep : TurnEnd
+
+-- how a turn ends, what it arms, and how the conversation stands then
+abbrev pub TurnEndsAs : Opening → Opening → List Event → Option (List Event) → Held → TurnEnd → Type 0
+TurnEndsAs c c' calls o h (Over e) = (o ≡ None) × (is_awake e ≡ true) × EndsAs c e c'.written c'.rest calls
+TurnEndsAs c c' calls o h Again = (o ≡ None) × (c'.ended ≡ false) × GoesOn c c' calls
+TurnEndsAs c c' calls o h Asleep = (is_some o ≡ true) × (c'.ended ≡ false) × GoesOn c c' calls
 
 -- One or more turns: the calls of the wire, the arming that ends them, and how the directions then stand.
-pub record VisitPolled (wire key : ℕ) (before after : Option (List Event)) (old new : Core) (c c' : Opening) (t : PollEnd) (h h' : Held) (calls : List Event) (o : Option (List Event)) : Type 0 where
+pub record Turned (wire key : ℕ) (before after : Option (List Event)) (old new : Core) (c c' : Opening)
+    (t : TurnEnd) (h h' : Held) (calls : List Event) (o : Option (List Event)) : Type 0 where
   pub was : held_at (map shown old.sources) key ≡ Some h
   pub wired : h.wire ≡ wire
   pub now : held_at (map shown new.sources) key ≡ Some h'
@@ -71,17 +79,20 @@ pub record VisitPolled (wire key : ℕ) (before after : Option (List Event)) (ol
   pub apart : (w : ℕ) → part w (arms_told o) ≡ []
   pub waits : waits_in (calls ++ arms_told o) ≡ 0
   -- the other wires' sources stand as they stood
-  pub keeps : (k : ℕ) (x : Held) → held_at (map shown old.sources) k ≡ Some x → x.wire ≢ wire → held_at (map shown new.sources) k ≡ Some x
+  pub keeps : (k : ℕ) (x : Held) → held_at (map shown old.sources) k ≡ Some x → x.wire ≢ wire →
+      held_at (map shown new.sources) k ≡ Some x
   pub rests : IsBetweenCalls new
   pub ticker : new.ticker ≡ old.ticker
   pub made : new.made ≡ old.made
   pub begun : new.begun ≡ after_begun old.begun (length (arms_told o))
   pub tags : tags new.sources ≡ tags old.sources
-  pub turned : PollEndsAs c c' calls o h' t
+  pub turned : TurnEndsAs c c' calls o h' t
 
-abbrev pub VisitPolls : ℕ → ℕ → Option (List Event) → Option (List Event) → Core → Core → Opening → Opening → PollEnd → Type 0
-VisitPolls wire key before after old new c c' t =
-    (h : Held) × (h' : Held) × (calls : List Event) × (o : Option (List Event)) × VisitPolled wire key before after old new c c' t h h' calls o
+abbrev pub Turns : ℕ → ℕ → Option (List Event) → Option (List Event) → Core → Core → Opening → Opening →
+    TurnEnd → Type 0
+Turns wire key before after old new c c' t =
+    (h : Held) × (h' : Held) × (calls : List Event) × (o : Option (List Event)) ×
+    Turned wire key before after old new c c' t h h' calls o
 
 abbrev pub reported_side : Side → ℕ
 reported_side Idle = 0
@@ -96,15 +107,15 @@ abbrev pub may_ask : Option Held → ℕ
 may_ask None = 0
 may_ask (Some h) = reported_one h
 
--- a poll after which the wire is asked again leaves less
-abbrev pub OnAgain : ℕ → ℕ → PollEnd → Type 0
-OnAgain now before poll_end.Again = now < before
-OnAgain now before poll_end.Asleep = Unit {0}
-OnAgain now before (poll_end.Over e) = Unit {0}
+-- a turn after which the wire is asked again leaves less
+abbrev pub OnAgain : ℕ → ℕ → TurnEnd → Type 0
+OnAgain now before Again = now < before
+OnAgain now before Asleep = Unit {0}
+OnAgain now before (Over e) = Unit {0}
 
-abbrev pub last_poll_end : Option Ending → PollEnd
-last_poll_end None = poll_end.Asleep
-last_poll_end (Some e) = poll_end.Over e
+abbrev pub last_turn : Option Ending → TurnEnd
+last_turn None = Asleep
+last_turn (Some e) = Over e
 
 -- ---- a stay over a registered wire
 
@@ -136,7 +147,8 @@ RegisteredVisitEnds wire key c calls o held h (slot.Asleep s) = record {
 }
 RegisteredVisitEnds wire key c calls o held h slot.Refused = ⊥
 
-pub record RegisteredVisit (wire key : ℕ) (before after : Option (List Event)) (old new : Core) (c : Opening) (s : Slot) (h h' : Held) (calls : List Event) (o : Option (List Event)) : Type 0 where
+pub record RegisteredVisit (wire key : ℕ) (before after : Option (List Event)) (old new : Core) (c : Opening)
+    (s : Slot) (h h' : Held) (calls : List Event) (o : Option (List Event)) : Type 0 where
   pub was : held_at (map shown old.sources) key ≡ Some h
   pub wired : h.wire ≡ wire
   pub wired' : h'.wire ≡ wire
@@ -147,7 +159,8 @@ pub record RegisteredVisit (wire key : ℕ) (before after : Option (List Event))
   pub shows : registry (map shown old.sources) (calls ++ tail_of wire key o s) ≡ map shown new.sources
   pub apart : (w : ℕ) → part w (tail_of wire key o s) ≡ []
   pub waits : waits_in (calls ++ tail_of wire key o s) ≡ 0
-  pub keeps : (k : ℕ) (x : Held) → held_at (map shown old.sources) k ≡ Some x → x.wire ≢ wire → held_at (map shown new.sources) k ≡ Some x
+  pub keeps : (k : ℕ) (x : Held) → held_at (map shown old.sources) k ≡ Some x → x.wire ≢ wire →
+      held_at (map shown new.sources) k ≡ Some x
   pub rests : IsBetweenCalls new
   pub ticker : new.ticker ≡ old.ticker
   pub made : new.made ≡ old.made
@@ -155,33 +168,42 @@ pub record RegisteredVisit (wire key : ℕ) (before after : Option (List Event))
   pub tags : tags new.sources ≡ tags_after key s (tags old.sources)
   pub stays : RegisteredVisitEnds wire key c calls o (map shown new.sources) h' s
 
-abbrev pub MakesRegisteredVisit : ℕ → ℕ → Option (List Event) → Option (List Event) → Core → Core → Opening → Slot → Type 0
+abbrev pub MakesRegisteredVisit : ℕ → ℕ → Option (List Event) → Option (List Event) → Core → Core → Opening →
+    Slot → Type 0
 MakesRegisteredVisit wire key before after old new c s =
-    (h : Held) × (h' : Held) × (calls : List Event) × (o : Option (List Event)) × RegisteredVisit wire key before after old new c s h h' calls o
+    (h : Held) × (h' : Held) × (calls : List Event) × (o : Option (List Event)) ×
+    RegisteredVisit wire key before after old new c s h h' calls o
 
 -- ---- a first visit
 
 -- a wire was opened: its source was registered, and the conversation begun
-pub record Registered (s : Session) (wire : ℕ) (opened : Opened) (before after : Option (List Event)) (old new : Core) (c : Slot) (talk : List (List ℕ) → Said) (client : Opening) (key : ℕ) (mid : Core) : Type 0 where
+pub record Registered (s : Session) (wire : ℕ) (opened : Opened) (before after : Option (List Event)) (old new : Core)
+    (c : Slot) (talk : List (List ℕ) → Said) (client : Opening) (key : ℕ) (mid : Core) : Type 0 where
   pub begins : conversation s.party opened ≡ talk
   pub stands : StandsIn talk [] client
   pub unwritten : client.written ≡ []
   pub free : held_at (map shown old.sources) key ≡ None
   pub core : mid ≡ inserted old key wire
-  pub shows : with_held (map shown old.sources) (record { key = key; wire = wire; read = Idle; write = Idle }) ≡ map shown mid.sources
+  pub shows : with_held (map shown old.sources) (record { key = key; wire = wire; read = Idle; write = Idle }) ≡
+      map shown mid.sources
   pub stays : MakesRegisteredVisit wire key (told before (event.Add wire key true ∷ [])) after mid new client c
 
 abbrev pub Registers : Session → ℕ → Opened → Option (List Event) → Option (List Event) → Core → Core → Slot → Type 0
 Registers s wire opened before after old new c =
-    (talk : List (List ℕ) → Said) × (client : Opening) × (key : ℕ) × (mid : Core) × Registered s wire opened before after old new c talk client key mid
+    (talk : List (List ℕ) → Said) × (client : Opening) × (key : ℕ) × (mid : Core) ×
+    Registered s wire opened before after old new c talk client key mid
 
 -- a new session that sleeps has a new key
 abbrev pub FirstTags : ℕ → Tags → Tags → Slot → Type 0
 FirstTags wire old new (slot.Ended e) = new ≡ old
-FirstTags wire old new (slot.Asleep s) = (tag_at old s.key ≡ None) × (tag_at new s.key ≡ Some wire) × ((key : ℕ) → key ≢ s.key → tag_at new key ≡ tag_at old key) × ((w : ℕ) → w ≢ wire → has_wire w new ≡ has_wire w old) × (Single old → Single new)
+FirstTags wire old new (slot.Asleep s) =
+    (tag_at old s.key ≡ None) × (tag_at new s.key ≡ Some wire) ×
+    ((key : ℕ) → key ≢ s.key → tag_at new key ≡ tag_at old key) ×
+    ((w : ℕ) → w ≢ wire → has_wire w new ≡ has_wire w old) × (Single old → Single new)
 FirstTags wire old new slot.Refused = ⊥
 
-pub data FirstVisits (s : Session) (wire : ℕ) (before after : Option (List Event)) (old new : Core) (c : Slot) : Type 0 where
+pub data FirstVisits (s : Session) (wire : ℕ) (before after : Option (List Event)) (old new : Core)
+    (c : Slot) : Type 0 where
   -- the dialling failed
   undialled : (dials : List Answered) (failure : Ending) (e : Ended) →
       DialsTo wire (begins_dialling s.party) (fails failure) before after dials → is_awake failure ≡ true → new ≡ old →

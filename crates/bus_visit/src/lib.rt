@@ -2,9 +2,13 @@
 #![tactic(auto)]
 
 mod conversation;
+mod conversing;
 mod dialling;
+mod noting;
 mod visiting;
 
 pub use conversation::Conversation;
+pub use conversing::{Conversed, converse};
 pub use dialling::{Dialled, OpenWire, Reached};
+pub use noting::note_not_ready;
 pub use visiting::{Sleeper, Slot, ended_of, first_visit, visit};

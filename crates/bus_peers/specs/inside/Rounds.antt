@@ -1,5 +1,6 @@
 -- What one round does, whatever the record was before it, and how a call ends.
-use Rattle.std.specs.Prelude.{◌≡◌, ℕ, ◌+◌, Bool, true, false, List, [], ◌∷◌, ◌++◌, map, Option, Some, None, Result, Ok, Err}
+use Rattle.std.specs.Prelude.{◌≡◌, ℕ, ◌+◌, Bool, true, false, List, [], ◌∷◌, ◌++◌, map, Option, Some, None, Result}
+use Rattle.std.specs.Prelude.{Ok, Err}
 use Rattle.std.specs.List.{list_all}
 use Rattle.react_core.specs.declared.outside.Event.{Event}
 use Rattle.react_core.specs.declared.outside.Event.TheVariants as event
@@ -24,7 +25,8 @@ use Rattle.bus_visit.specs.Shown.{IsBetweenCalls, shown, Tags, has_wire}
 abbrev pub WokenBy : Woken → ℕ → Woken → Type 0
 WokenBy old task new = new.lost ≡ false → (old.lost ≡ false) × (new.tasks.items ≡ old.tasks.items ++ task ∷ [])
 
--- a round without a deadline: the clock, the wait, the clock again where nothing came, and the re-arming of what still waits
+-- a round without a deadline: the clock, the wait, the clock again where nothing came, and the re-arming of what
+-- still waits
 abbrev pub round_events : List Held → Round → List Event
 round_events held r = round_told None r ++ rearming held (reports_of r.answer)
 
@@ -83,7 +85,14 @@ is_kept slot.Refused = false
 -- what the session of a slot has come to
 abbrev pub EndsIn : ℕ → Slot → Ended → Type 0
 EndsIn wire (slot.Ended e) ended = ended ≡ e
-EndsIn wire (slot.Asleep s) ended = ended ≡ record { ending = ending.Waiting; written = s.client.written; leftover = s.client.rest; wire = wire; moment = None }
+EndsIn wire (slot.Asleep s) ended =
+    ended ≡ record {
+      ending = ending.Waiting;
+      written = s.client.written;
+      leftover = s.client.rest;
+      wire = wire;
+      moment = None;
+    }
 EndsIn wire slot.Refused ended = ⊥
 
 -- the first of these slots is that of this wire

@@ -17,7 +17,8 @@ pub record NoneFell {Origin : Type 0} (before after : Outer Origin) : Type 0 whe
   pub wires : NoneFalls before.wire_faults after.wire_faults
   pub dials : NoneFalls before.dial_faults after.dial_faults
 
--- whatever the call began with: where the slots were counted from its start to the first moment, those now are to the second
+-- whatever the call began with: where the slots were counted from its start to the first moment, those now are to
+-- the second
 abbrev pub CountsOn : {Origin : Type 0} → List Slot → List Slot → Outer Origin → Outer Origin → Type 0
 CountsOn {Origin} slots slots' old new =
     (start : Outer Origin) → NoneFell start old → AllCounted 0 slots start old → AllCounted 0 slots' start new

@@ -1,5 +1,6 @@
 -- Where the sessions stand between their visits, in the code and in the record.
-use Rattle.std.specs.Prelude.{◌≡◌, ◌≢◌, ◌⊎◌, ◌<◌, ◌≤◌, ◌^◌, ◌-◌, ℕ, ◌+◌, Bool, true, false, not, List, [], ◌∷◌, map, take, length, count_by, Option, Some, None, Result, Ok, Err}
+use Rattle.std.specs.Prelude.{◌≡◌, ◌≢◌, ◌⊎◌, ◌<◌, ◌≤◌, ◌^◌, ◌-◌, ℕ, ◌+◌, Bool, true, false, not, List, [], ◌∷◌, map}
+use Rattle.std.specs.Prelude.{take, length, count_by, Option, Some, None, Result, Ok, Err}
 use Rattle.std.specs.List.{list_all}
 use Rattle.react_core.specs.declared.outside.Event.{Event}
 use Rattle.react_core.specs.declared.reactor.Counter.TheVariants as counter
@@ -83,7 +84,8 @@ Stands s wire pending past (slot.Ended e) = record {
 Stands s wire pending past (slot.Asleep c) = record {
   open_ : c.client.ended ≡ false;
   unread : moment wire past ≡ None;
-  comes : comes_to s wire past ≡ Some (record { ending = ending.Waiting; written = c.client.written; leftover = c.client.rest });
+  comes : comes_to s wire past ≡
+      Some (record { ending = ending.Waiting; written = c.client.written; leftover = c.client.rest });
   talking : Talking s wire past c.client;
   paused : Paused wire past c.key pending;
 }
@@ -92,7 +94,8 @@ Stands s wire pending past slot.Refused = ⊥
 -- the first of these sessions is that of this wire
 abbrev pub AllStand : ℕ → List ℕ → List Session → List Slot → Pieces → Type 0
 AllStand wire pending [] [] past = Unit {0}
-AllStand wire pending (s ∷ sessions) (c ∷ slots) past = Stands s wire pending past c × AllStand (wire + 1) pending sessions slots past
+AllStand wire pending (s ∷ sessions) (c ∷ slots) past =
+    Stands s wire pending past c × AllStand (wire + 1) pending sessions slots past
 AllStand wire pending [] (c ∷ slots) past = ⊥
 AllStand wire pending (s ∷ sessions) [] past = ⊥
 
@@ -104,7 +107,8 @@ pub record IsNew (wire : ℕ) (past : Pieces) : Type 0 where
 -- ---- the call under way
 
 -- These pieces were told since the start of the call, and these sessions are still to be visited before the next round.
-pub record CallStands (sessions : List Session) (rounds : ℕ) (pending : List ℕ) (start : Core) (before after : Option (List Event)) (core : Core)
+pub record CallStands (sessions : List Session) (rounds : ℕ) (pending : List ℕ) (start : Core)
+    (before after : Option (List Event)) (core : Core)
     (slots : List Slot) (past : Pieces) : Type 0 where
   pub gained : after ≡ told before (pieces.told past)
   pub run : Run sessions rounds past pending
@@ -120,7 +124,8 @@ pub record CallStands (sessions : List Session) (rounds : ℕ) (pending : List �
   pub begun : core.begun ≡ after_begun start.begun (armings_in past)
 
 -- the call stands there after so many rounds
-abbrev pub CallStandsAfter : List Session → ℕ → List ℕ → ℕ → Core → Option (List Event) → Option (List Event) → Core → List Slot → Type 0
+abbrev pub CallStandsAfter : List Session → ℕ → List ℕ → ℕ → Core → Option (List Event) → Option (List Event) →
+    Core → List Slot → Type 0
 CallStandsAfter sessions rounds pending n start before after core slots =
     (past : Pieces) × (rounds_in past ≡ n) × CallStands sessions rounds pending start before after core slots past
 
@@ -129,32 +134,41 @@ abbrev pub AllBuilt : List Session → Type 0
 AllBuilt sessions = list_all is_built sessions ≡ true
 
 -- one visit after another: from where these sessions are to be visited to where those are, whatever the call began with
-abbrev pub VisitsKeepCall : List ℕ → List ℕ → Option (List Event) → Option (List Event) → Core → Core → List Slot → List Slot → Type 0
+abbrev pub VisitsKeepCall : List ℕ → List ℕ → Option (List Event) → Option (List Event) → Core → Core → List Slot →
+    List Slot → Type 0
 VisitsKeepCall pending pending' r0 r1 old new slots slots' =
     (sessions : List Session) (rounds n : ℕ) (start : Core) (before : Option (List Event)) → AllBuilt sessions →
-    CallStandsAfter sessions rounds pending n start before r0 old slots → CallStandsAfter sessions rounds pending' n start before r1 new slots'
+    CallStandsAfter sessions rounds pending n start before r0 old slots →
+    CallStandsAfter sessions rounds pending' n start before r1 new slots'
 
 -- a round and its visits, where one is left and a session sleeps
 abbrev pub RoundKeepsCall : Option (List Event) → Option (List Event) → Core → Core → List Slot → List Slot → Type 0
 RoundKeepsCall r0 r1 old new slots slots' =
-    (sessions : List Session) (rounds n : ℕ) (start : Core) (before : Option (List Event)) → AllBuilt sessions → length slots ≡ length sessions →
+    (sessions : List Session) (rounds n : ℕ) (start : Core) (before : Option (List Event)) → AllBuilt sessions →
+    length slots ≡ length sessions →
     n < rounds → old.sources ≢ [] →
-    CallStandsAfter sessions rounds [] n start before r0 old slots → CallStandsAfter sessions rounds [] (n + 1) start before r1 new slots'
+    CallStandsAfter sessions rounds [] n start before r0 old slots →
+    CallStandsAfter sessions rounds [] (n + 1) start before r1 new slots'
 
 -- all rounds that were due, from the first visits on
-pub record CallSettled (sessions : List Session) (rounds : ℕ) (start : Core) (before after : Option (List Event)) (core : Core) (slots : List Slot)
+pub record CallSettled (sessions : List Session) (rounds : ℕ) (start : Core) (before after : Option (List Event))
+    (core : Core) (slots : List Slot)
     (past : Pieces) : Type 0 where
   pub going : CallStands sessions rounds [] start before after core slots past
   pub rest : AllRest sessions past
   pub spent : (sleepers sessions past ≡ []) ⊎ (rounds_in past ≡ rounds)
 
-abbrev pub RoundsSettleCall : ℕ → Option (List Event) → Option (List Event) → Core → Core → List Slot → List Slot → Type 0
+abbrev pub RoundsSettleCall : ℕ → Option (List Event) → Option (List Event) → Core → Core → List Slot →
+    List Slot → Type 0
 RoundsSettleCall rounds r0 r1 old new slots slots' =
-    (sessions : List Session) (start : Core) (before : Option (List Event)) → AllBuilt sessions → length slots ≡ length sessions →
-    CallStandsAfter sessions rounds [] 0 start before r0 old slots → (past : Pieces) × CallSettled sessions rounds start before r1 new slots' past
+    (sessions : List Session) (start : Core) (before : Option (List Event)) → AllBuilt sessions →
+    length slots ≡ length sessions →
+    CallStandsAfter sessions rounds [] 0 start before r0 old slots → (past : Pieces) ×
+    CallSettled sessions rounds start before r1 new slots' past
 
 -- what one visit comes to, in the record
-pub record VisitInRecord (s : Session) (wire : ℕ) (past : Pieces) (before after : Option (List Event)) (old new : Core) (c : Slot) (v : List Event) : Type 0 where
+pub record VisitInRecord (s : Session) (wire : ℕ) (past : Pieces) (before after : Option (List Event))
+    (old new : Core) (c : Slot) (v : List Event) : Type 0 where
   pub gained : after ≡ told before v
   pub visits : Visit s wire past v
   pub shows : Shows (past ▸ visit wire v) (map shown new.sources)
@@ -177,31 +191,41 @@ pub record Told (before after : Option (List Event)) (old new : Core) (more : Li
 
 -- a refusal; want of memory says nothing of the rounds
 abbrev pub RefusedAt : OpenError → Option (List Event) → Option (List Event) → Core → Core → Type 0
-RefusedAt open_err.OutOfMemory before after old new = (new.hands ≡ None) × ((more : List Event) × (after ≡ told before more))
+RefusedAt open_err.OutOfMemory before after old new =
+    (new.hands ≡ None) × ((more : List Event) × (after ≡ told before more))
 RefusedAt open_err.Poller before after old new = (more : List Event) × Told before after old new more
-RefusedAt (open_err.Exhausted c value) before after old new = (c ≡ counter.Round) × (value ≡ 2 ^ 64 - 1) × (new.ticker ≡ 2 ^ 64 - 1) × ((more : List Event) × Told before after old new more)
+RefusedAt (open_err.Exhausted c value) before after old new =
+    (c ≡ counter.Round) × (value ≡ 2 ^ 64 - 1) × (new.ticker ≡ 2 ^ 64 - 1) ×
+    ((more : List Event) × Told before after old new more)
 
-abbrev pub Refuses : {T : Type 0} → Result T OpenError → Option (List Event) → Option (List Event) → Core → Core → Type 0
+abbrev pub Refuses : {T : Type 0} → Result T OpenError → Option (List Event) → Option (List Event) → Core →
+    Core → Type 0
 Refuses (Ok v) before after old new = Unit {0}
 Refuses (Err e) before after old new = RefusedAt e before after old new
 
 -- Where a round's number ran out, the call stood at the end of its visits, and a session slept.
-pub record CallHalted (sessions : List Session) (rounds : ℕ) (start : Core) (before after : Option (List Event)) (core : Core) (slots : List Slot) (past : Pieces) : Type 0 where
+pub record CallHalted (sessions : List Session) (rounds : ℕ) (start : Core) (before after : Option (List Event))
+    (core : Core) (slots : List Slot) (past : Pieces) : Type 0 where
   pub going : CallStands sessions rounds [] start before after core slots past
   pub rest : AllRest sessions past
   pub sleeper : sleepers sessions past ≢ []
   pub left : rounds_in past < rounds
 
-abbrev pub Stuck : {T : Type 0} → Result T OpenError → ℕ → Option (List Event) → Option (List Event) → Core → Core → List Slot → List Slot → Type 0
+abbrev pub Stuck : {T : Type 0} → Result T OpenError → ℕ → Option (List Event) → Option (List Event) → Core → Core →
+    List Slot → List Slot → Type 0
 Stuck (Ok v) rounds r0 r1 old new slots slots' = Unit {0}
 Stuck (Err open_err.OutOfMemory) rounds r0 r1 old new slots slots' = Unit {0}
 Stuck (Err open_err.Poller) rounds r0 r1 old new slots slots' = Unit {0}
 Stuck (Err (open_err.Exhausted c value)) rounds r0 r1 old new slots slots' =
-    (sessions : List Session) (start : Core) (before : Option (List Event)) → AllBuilt sessions → length slots ≡ length sessions →
-    CallStandsAfter sessions rounds [] 0 start before r0 old slots → (past : Pieces) × CallHalted sessions rounds start before r1 new slots' past
+    (sessions : List Session) (start : Core) (before : Option (List Event)) → AllBuilt sessions →
+    length slots ≡ length sessions →
+    CallStandsAfter sessions rounds [] 0 start before r0 old slots → (past : Pieces) ×
+    CallHalted sessions rounds start before r1 new slots' past
 
-abbrev pub Halts : {T : Type 0} → Result T OpenError → List Session → ℕ → Core → Option (List Event) → Option (List Event) → Core → List Slot → Type 0
+abbrev pub Halts : {T : Type 0} → Result T OpenError → List Session → ℕ → Core → Option (List Event) →
+    Option (List Event) → Core → List Slot → Type 0
 Halts (Ok v) sessions rounds start before after core slots = Unit {0}
 Halts (Err open_err.OutOfMemory) sessions rounds start before after core slots = Unit {0}
 Halts (Err open_err.Poller) sessions rounds start before after core slots = Unit {0}
-Halts (Err (open_err.Exhausted c value)) sessions rounds start before after core slots = (past : Pieces) × CallHalted sessions rounds start before after core slots past
+Halts (Err (open_err.Exhausted c value)) sessions rounds start before after core slots =
+    (past : Pieces) × CallHalted sessions rounds start before after core slots past

@@ -5,7 +5,8 @@ use Rattle.bus_session.specs.Parts.{part}
 use Rattle.bus_visit.specs.Counts.{waits_in}
 use Rattle.bus_visit.specs.Registry.{Held, waits, registry, arming}
 
-quiet_one : (c : Bool) (wire key : ℕ) (read write : Bool) (held : List Held) → registry held (if c then event.Modify wire key read write true ∷ [] else []) ≡ held
+quiet_one : (c : Bool) (wire key : ℕ) (read write : Bool) (held : List Held) →
+    registry held (if c then event.Modify wire key read write true ∷ [] else []) ≡ held
 quiet_one true wire key read write held = refl
 quiet_one false wire key read write held = refl
 
@@ -13,7 +14,8 @@ quiet_one false wire key read write held = refl
 pub arming-quiet : (h : Held) (held : List Held) → registry held (arming h) ≡ held
 arming-quiet h held = quiet_one (waits h.read || waits h.write) h.wire h.key (waits h.read) (waits h.write) held
 
-apart_one : (c : Bool) (wire key : ℕ) (read write : Bool) (w : ℕ) → part w (if c then event.Modify wire key read write true ∷ [] else []) ≡ []
+apart_one : (c : Bool) (wire key : ℕ) (read write : Bool) (w : ℕ) →
+    part w (if c then event.Modify wire key read write true ∷ [] else []) ≡ []
 apart_one true wire key read write w = refl
 apart_one false wire key read write w = refl
 
@@ -21,7 +23,8 @@ apart_one false wire key read write w = refl
 pub arming-apart : (h : Held) (w : ℕ) → part w (arming h) ≡ []
 arming-apart h w = apart_one (waits h.read || waits h.write) h.wire h.key (waits h.read) (waits h.write) w
 
-waits_one : (c : Bool) (wire key : ℕ) (read write : Bool) → waits_in (if c then event.Modify wire key read write true ∷ [] else []) ≡ 0
+waits_one : (c : Bool) (wire key : ℕ) (read write : Bool) →
+    waits_in (if c then event.Modify wire key read write true ∷ [] else []) ≡ 0
 waits_one true wire key read write = refl
 waits_one false wire key read write = refl
 

@@ -7,9 +7,7 @@ use Rattle.bus_session.specs.declared.ended.Ending.{Ending}
 use Rattle.bus_session.specs.declared.ended.Ending.TheVariants as ending
 use Rattle.bus_visit.specs.declared.visiting.Slot.{Slot}
 use Rattle.bus_visit.specs.declared.visiting.Slot.TheVariants as slot
-use Rattle.bus_visit.specs.declared.visiting.PollEnd.{PollEnd}
-use Rattle.bus_visit.specs.declared.visiting.PollEnd.TheVariants as poll_end
-use Rattle.bus_visit.specs.Faults.{EndingCounted, PollEndCounted, SlotCounted}
+use Rattle.bus_visit.specs.Faults.{EndingCounted, SlotCounted}
 
 -- ---- a count that rose, over a longer stretch
 
@@ -35,7 +33,8 @@ module _ {Origin : Type 0} where
   pub rises-visit : (wire : ℕ) (a b : Outer Origin) → Keeps (part.Visit wire) a b → Rises wire a b
   rises-visit wire a b k = record { wires = k.wires.1; dials = k.dials.1 }
 
-  pub ending-within : (wire : ℕ) (e : Ending) (a b c d : Outer Origin) → Rises wire a b → Rises wire c d → EndingCounted wire e b c → EndingCounted wire e a d
+  pub ending-within : (wire : ℕ) (e : Ending) (a b c d : Outer Origin) → Rises wire a b → Rises wire c d →
+      EndingCounted wire e b c → EndingCounted wire e a d
   ending-within wire (ending.Open guid cap_unix_fd) a b c d low high counted = tt
   ending-within wire (ending.Address reason) a b c d low high counted = tt
   ending-within wire ending.Unsupported a b c d low high counted = tt
@@ -48,12 +47,8 @@ module _ {Origin : Type 0} where
   ending-within wire ending.TimedOut a b c d low high counted = tt
   ending-within wire ending.Waiting a b c d low high counted = tt
 
-  pub turn-within : (wire : ℕ) (t : PollEnd) (a b c d : Outer Origin) → Rises wire a b → Rises wire c d → PollEndCounted wire t b c → PollEndCounted wire t a d
-  turn-within wire (poll_end.Over e) a b c d low high counted = ending-within wire e a b c d low high counted
-  turn-within wire poll_end.Again a b c d low high counted = tt
-  turn-within wire poll_end.Asleep a b c d low high counted = tt
-
-  pub slot-within : (wire : ℕ) (s : Slot) (a b c d : Outer Origin) → Rises wire a b → Rises wire c d → SlotCounted wire s b c → SlotCounted wire s a d
+  pub slot-within : (wire : ℕ) (s : Slot) (a b c d : Outer Origin) → Rises wire a b → Rises wire c d →
+      SlotCounted wire s b c → SlotCounted wire s a d
   slot-within wire (slot.Ended e) a b c d low high counted = ending-within wire e.ending a b c d low high counted
   slot-within wire (slot.Asleep s) a b c d low high counted = tt
   slot-within wire slot.Refused a b c d low high counted = tt

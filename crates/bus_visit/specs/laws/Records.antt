@@ -1,5 +1,5 @@
 -- What holds of one list of events after another, and of the calls of one wire.
-use Rattle.std.proofs.Common.{◌≡◌, ◌≢◌, ℕ, ◌+◌, true, false, List, [], ◌∷◌, ◌++◌, Option, refl, arith}
+use Rattle.std.proofs.Common.{◌≡◌, ◌≢◌, ℕ, ◌+◌, true, false, List, [], ◌∷◌, ◌++◌, Option, refl, ◌∙◌, ap, arith, Some}
 use Rattle.std.specs.Option.{option_and_then}
 use Rattle.std.proofs.lemmas.List.Elements.{filter-append}
 use Rattle.std.proofs.lemmas.List.Sums.{sum_by-append}
@@ -8,9 +8,13 @@ use Rattle.react_core.specs.declared.outside.Event.{Event}
 use Rattle.react_core.specs.declared.outside.Event.TheVariants as event
 use Rattle.bus_session.specs.Parts.{is_of, part}
 use Rattle.bus_session.specs.Alone.{Course, after, goes_through}
-use Rattle.bus_visit.specs.Registry.{Held, held_after, registry}
-use Rattle.bus_visit.specs.Asking.{Asking, asking_next, asks}
-use Rattle.bus_visit.specs.Calls.{IsCall, AreCalls}
+use Rattle.bus_visit.specs.Registry.{noted, Held, held_after, registry}
+use Rattle.bus_visit.specs.Asking.{begins, after_stop, Asking, asking_next, asks}
+use Rattle.react_core.specs.declared.outside.RecvAnswer.TheVariants as recv_answer
+use Rattle.react_core.specs.declared.outside.SendAnswer.TheVariants as send_answer
+use Rattle.react_core.specs.declared.reactor.Dir.{Dir}
+use Rattle.react_core.specs.declared.reactor.Dir.TheVariants.{Read, Write}
+use Rattle.bus_visit.specs.Calls.{IsCall, AreCalls, IsAnswered, AllAnswered, IsNotReady, StopsAt}
 use Rattle.bus_visit.specs.Counts.{waits_in}
 
 -- ---- one list of events after another
@@ -62,3 +66,79 @@ calls-no-waits wire [] h = refl
 calls-no-waits wire (event.Recv on size answer ∷ calls) (h, hs) = calls-no-waits wire calls hs
 calls-no-waits wire (event.Send on offered answer ∷ calls) (h, hs) = calls-no-waits wire calls hs
 calls-no-waits wire (e ∷ calls) (h, hs) = absurd h
+
+-- ---- answered calls
+
+pub answered-append : (a b : List Event) → AllAnswered a → AllAnswered b → AllAnswered (a ++ b)
+answered-append [] b h k = k
+answered-append (e ∷ a) b (h, hs) k = (h, answered-append a b hs k)
+
+answer-asks : (h : Held) (e : Event) → IsAnswered e → asking_next (Some (begins h)) e ≡ Some (begins h)
+answer-asks h (event.Recv wire asked (recv_answer.Got bytes)) is = refl
+answer-asks h (event.Recv wire asked recv_answer.End) is = refl
+answer-asks h (event.Recv wire asked recv_answer.Failed) is = refl
+answer-asks h (event.Send wire offered (send_answer.Took n)) is = refl
+answer-asks h (event.Send wire offered send_answer.Failed) is = refl
+answer-asks h e is = absurd is
+
+pub answered-asks : (h : Held) (calls : List Event) → AllAnswered calls → asks (Some (begins h)) calls ≡ Some (begins h)
+answered-asks h [] is = refl
+answered-asks h (e ∷ calls) (is, more) = ap (λ a. asks a calls) (answer-asks h e is) ∙ answered-asks h calls more
+
+answer-shows : (held : List Held) (e : Event) → IsAnswered e → held_after held e ≡ held
+answer-shows held (event.Recv wire asked (recv_answer.Got bytes)) is = refl
+answer-shows held (event.Recv wire asked recv_answer.End) is = refl
+answer-shows held (event.Recv wire asked recv_answer.Failed) is = refl
+answer-shows held (event.Send wire offered (send_answer.Took n)) is = refl
+answer-shows held (event.Send wire offered send_answer.Failed) is = refl
+answer-shows held e is = absurd is
+
+pub answered-shows : (held : List Held) (calls : List Event) → AllAnswered calls → registry held calls ≡ held
+answered-shows held [] is = refl
+answered-shows held (e ∷ calls) (is, more) =
+    ap (λ x. registry x calls) (answer-shows held e is) ∙ answered-shows held calls more
+
+pub answered-waits : (calls : List Event) → AllAnswered calls → waits_in calls ≡ 0
+answered-waits [] is = refl
+answered-waits (event.Recv wire asked (recv_answer.Got bytes) ∷ calls) (is, more) = answered-waits calls more
+answered-waits (event.Recv wire asked recv_answer.End ∷ calls) (is, more) = answered-waits calls more
+answered-waits (event.Recv wire asked recv_answer.Failed ∷ calls) (is, more) = answered-waits calls more
+answered-waits (event.Send wire offered (send_answer.Took n) ∷ calls) (is, more) = answered-waits calls more
+answered-waits (event.Send wire offered send_answer.Failed ∷ calls) (is, more) = answered-waits calls more
+answered-waits (e ∷ calls) (is, more) = absurd is
+
+-- ---- and a NotReady behind them
+
+stop-asks : (wire : ℕ) (dir : Dir) (h : Held) (e : Event) → IsNotReady wire dir e →
+    asks (Some (begins h)) (e ∷ []) ≡ Some (after_stop dir (begins h))
+stop-asks wire Read h (event.Recv w asked recv_answer.NotReady) is = refl
+stop-asks wire Write h (event.Send w offered send_answer.NotReady) is = refl
+stop-asks wire dir h e is = absurd is
+
+stop-waits : (wire : ℕ) (dir : Dir) (e : Event) → IsNotReady wire dir e → waits_in (e ∷ []) ≡ 0
+stop-waits wire Read (event.Recv w asked recv_answer.NotReady) is = refl
+stop-waits wire Write (event.Send w offered send_answer.NotReady) is = refl
+stop-waits wire dir e is = absurd is
+
+stop-shows : (wire : ℕ) (dir : Dir) (held : List Held) (e : Event) → IsNotReady wire dir e →
+    registry held (e ∷ []) ≡ noted wire dir held
+stop-shows wire Read held (event.Recv w asked recv_answer.NotReady) is = ap (λ x. noted x Read held) is
+stop-shows wire Write held (event.Send w offered send_answer.NotReady) is = ap (λ x. noted x Write held) is
+stop-shows wire dir held e is = absurd is
+
+module _ (wire : ℕ) (dir : Dir) (calls : List Event) (s : StopsAt wire dir calls) where
+  pub stops-asks : (h : Held) → asks (Some (begins h)) calls ≡ Some (after_stop dir (begins h))
+  stops-asks h =
+      ap (asks (Some (begins h))) s.whole ∙ (asks-append (Some (begins h)) s.answered (s.last ∷ [])
+      ∙ (ap (λ a. asks a (s.last ∷ [])) (answered-asks h s.answered s.all) ∙ stop-asks wire dir h s.last s.stop))
+
+  pub stops-shows : (held : List Held) → registry held calls ≡ noted wire dir held
+  stops-shows held =
+      ap (registry held) s.whole ∙ (registry-append held s.answered (s.last ∷ [])
+      ∙ (ap (λ x. registry x (s.last ∷ [])) (answered-shows held s.answered s.all)
+      ∙ stop-shows wire dir held s.last s.stop))
+
+  pub stops-waits : waits_in calls ≡ 0
+  stops-waits =
+      ap waits_in s.whole ∙ (waits_in-append s.answered (s.last ∷ [])
+      ∙ rw (answered-waits s.answered s.all, stop-waits wire dir s.last s.stop) refl)

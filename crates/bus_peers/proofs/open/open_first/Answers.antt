@@ -20,14 +20,19 @@ use Rattle.bus_peers.proofs.open.open_first.Goals as goal
 pub loop-session-init : goal.loop-session-init
 loop-session-init g c =
     let all : length c.deref-session-items.result.now ≡ length c.deref-session-items.result.now - 0 = omega arith in
-    let W : ℕ → ℕ → Type 0 = λ rounds n. CallStandsAfter c.deref-session-items.result.now rounds (counting n 0) 0 c.args.reactor.now.core ((g.O.Tells.outer c.args.outside.now).events) ((g.O.Tells.outer c.args.outside.now).events) c.args.reactor.now.core c.args.slots.now.items in
+    let W : ℕ → ℕ → Type 0 =
+    λ rounds n. CallStandsAfter c.deref-session-items.result.now rounds (counting n 0) 0 c.args.reactor.now.core
+    ((g.O.Tells.outer c.args.outside.now).events) ((g.O.Tells.outer c.args.outside.now).events)
+    c.args.reactor.now.core c.args.slots.now.items in
     let R : List Session → Type 0 = λ x. length x ≤ vec_capacity c.args.slots.now in
     record {
       same = c.deref-session-items.ensures.value;
       wire = refl;
       len = ap length c.requires.unused;
       room = subst R (sym c.deref-session-items.ensures.value) c.requires.room;
-      went = λ rounds. subst (W rounds) all (going-start c.deref-session-items.result.now rounds ((g.O.Tells.outer c.args.outside.now).events) c.args.reactor.now.core c.args.slots.now.items c.requires.rests c.requires.empty c.requires.unused);
+      went = λ rounds. subst (W rounds)
+          all (going-start c.deref-session-items.result.now rounds ((g.O.Tells.outer c.args.outside.now).events)
+          c.args.reactor.now.core c.args.slots.now.items c.requires.rests c.requires.empty c.requires.unused);
       stands = ap (list_all is_open_slot) c.requires.unused;
       owned = owned-none c.args.slots.now.items (tags c.args.reactor.now.core.sources) c.requires.unused (ap tags c.requires.empty);
       poller = refl;
@@ -47,52 +52,91 @@ first_visit-requires-clause-new g c =
 
 pub returns-in_err-first_visit-clause-refused : goal.returns-in_err-first_visit-clause-refused
 returns-in_err-first_visit-clause-refused g c =
-    let here : Refuses c.from_residual.result ((g.O.Tells.outer c.loop-session.outside).events) ((g.O.Tells.outer c.first_visit.new.outside).events) c.loop-session.reactor.core c.first_visit.new.reactor.core = search rules in
-    refuses-more c.from_residual.result ((g.O.Tells.outer c.args.outside.now).events) ((g.O.Tells.outer c.loop-session.outside).events) ((g.O.Tells.outer c.first_visit.new.outside).events) c.args.reactor.now.core c.loop-session.reactor.core c.first_visit.new.reactor.core
-    (went-told c.deref-session-items.result.now 0 0 (counting (length c.deref-session-items.result.now - c.loop-session.session-index) c.loop-session.session-index) c.args.reactor.now.core ((g.O.Tells.outer c.args.outside.now).events) ((g.O.Tells.outer c.loop-session.outside).events) c.loop-session.reactor.core c.loop-session.slots.items (c.loop-session.invariant.went 0)) here
+    let here : Refuses c.from_residual.result ((g.O.Tells.outer c.loop-session.outside).events)
+    ((g.O.Tells.outer c.first_visit.new.outside).events) c.loop-session.reactor.core c.first_visit.new.reactor.core =
+    search rules in
+    refuses-more c.from_residual.result ((g.O.Tells.outer c.args.outside.now).events)
+    ((g.O.Tells.outer c.loop-session.outside).events) ((g.O.Tells.outer c.first_visit.new.outside).events)
+    c.args.reactor.now.core c.loop-session.reactor.core c.first_visit.new.reactor.core
+    (went-told c.deref-session-items.result.now 0 0
+    (counting (length c.deref-session-items.result.now - c.loop-session.session-index) c.loop-session.session-index)
+    c.args.reactor.now.core ((g.O.Tells.outer c.args.outside.now).events)
+    ((g.O.Tells.outer c.loop-session.outside).events)
+    c.loop-session.reactor.core c.loop-session.slots.items (c.loop-session.invariant.went 0)) here
 
 pub loop-session-preserved : goal.loop-session-preserved
 loop-session-preserved g c =
     let here : c.loop-session.session-index ≡ length c.loop-session.slots.items = sym c.loop-session.invariant.len in
     let at : slice_get c.deref-session-items.result.now c.loop-session.session-index ≡ Some c.session-item.result =
     slice_get-get_or c.deref-session-items.result.now c.loop-session.session-index c.session-item.result c.loop-session-test.true ∙ ap Some (sym c.session-item.is) in
-    let V : ℕ → Type 0 = λ w. FirstVisits c.session-item.result w ((g.O.Tells.outer c.loop-session.outside).events) ((g.O.Tells.outer c.first_visit.new.outside).events) c.loop-session.reactor.core c.first_visit.new.reactor.core c.in_ok-first_visit.field-0 in
-    let W : ℕ → List Slot → Type 0 = λ rounds x. CallStandsAfter c.deref-session-items.result.now rounds (counting (length c.deref-session-items.result.now - (c.loop-session.session-index + 1)) (c.loop-session.session-index + 1)) 0 c.args.reactor.now.core ((g.O.Tells.outer c.args.outside.now).events) ((g.O.Tells.outer c.first_visit.new.outside).events) c.first_visit.new.reactor.core x in
+    let V : ℕ → Type 0 =
+    λ w. FirstVisits c.session-item.result w ((g.O.Tells.outer c.loop-session.outside).events)
+    ((g.O.Tells.outer c.first_visit.new.outside).events)
+    c.loop-session.reactor.core c.first_visit.new.reactor.core c.in_ok-first_visit.field-0 in
+    let W : ℕ → List Slot → Type 0 =
+    λ rounds x.
+    CallStandsAfter c.deref-session-items.result.now rounds
+    (counting (length c.deref-session-items.result.now - (c.loop-session.session-index + 1))
+    (c.loop-session.session-index + 1)) 0 c.args.reactor.now.core ((g.O.Tells.outer c.args.outside.now).events)
+    ((g.O.Tells.outer c.first_visit.new.outside).events) c.first_visit.new.reactor.core x in
     let O : List Slot → Type 0 = λ x. Owned x (tags c.first_visit.new.reactor.core.sources) in
     let A : List Slot → Type 0 = λ x. AllCounted 0 x (g.O.Tells.outer c.args.outside.now) (g.O.Tells.outer c.first_visit.new.outside) in
-    let made : c.first_visit.new.reactor.core.made ≡ c.loop-session.reactor.core.made = first-made c.first_visit.result c.session-item.result c.loop-session.wire _ _ _ _ _ c.first_visit.ensures.visited c.first_visit.ensures.refused in
+    let made : c.first_visit.new.reactor.core.made ≡ c.loop-session.reactor.core.made =
+    first-made c.first_visit.result c.session-item.result c.loop-session.wire _ _ _ _ _ c.first_visit.ensures.visited
+    c.first_visit.ensures.refused in
     record {
       same = c.loop-session.invariant.same;
       wire = ap (λ n. n + 1) c.loop-session.invariant.wire;
       len = ap length c.push_reserved.ensures.items ∙ (length-append c.loop-session.slots.items (c.in_ok-first_visit.field-0 ∷ []) ∙ ap (λ n. n + 1) c.loop-session.invariant.len);
       room = omega (arith, c.loop-session.invariant.room, c.push_reserved.ensures.capacity);
       went = λ rounds. subst (W rounds) {x = c.loop-session.slots.items ++ c.in_ok-first_visit.field-0 ∷ []} (sym {A = List Slot} c.push_reserved.ensures.items)
-          (going-first c.deref-session-items.result.now rounds c.loop-session.session-index c.args.reactor.now.core ((g.O.Tells.outer c.args.outside.now).events) ((g.O.Tells.outer c.loop-session.outside).events) ((g.O.Tells.outer c.first_visit.new.outside).events) c.loop-session.reactor.core c.first_visit.new.reactor.core c.loop-session.slots.items
-          c.session-item.result c.in_ok-first_visit.field-0 (test-at is_built c.deref-session-items.result.now c.loop-session.session-index c.session-item.result (ap (list_all is_built) c.loop-session.invariant.same ∙ c.requires.built) at) here at (subst V c.loop-session.invariant.wire c.in_ok-first_visit.ensures.visited) (c.loop-session.invariant.went rounds));
+          (going-first c.deref-session-items.result.now rounds c.loop-session.session-index c.args.reactor.now.core
+          ((g.O.Tells.outer c.args.outside.now).events) ((g.O.Tells.outer c.loop-session.outside).events)
+          ((g.O.Tells.outer c.first_visit.new.outside).events)
+          c.loop-session.reactor.core c.first_visit.new.reactor.core c.loop-session.slots.items
+          c.session-item.result c.in_ok-first_visit.field-0 (test-at is_built c.deref-session-items.result.now
+          c.loop-session.session-index c.session-item.result (ap (list_all is_built) c.loop-session.invariant.same ∙
+          c.requires.built) at) here at (subst V c.loop-session.invariant.wire c.in_ok-first_visit.ensures.visited)
+          (c.loop-session.invariant.went rounds));
       stands = ap (list_all is_open_slot) c.push_reserved.ensures.items ∙ test-more is_open_slot c.loop-session.slots.items c.in_ok-first_visit.field-0 c.loop-session.invariant.stands
-          (first-open c.session-item.result c.loop-session.wire ((g.O.Tells.outer c.loop-session.outside).events) ((g.O.Tells.outer c.first_visit.new.outside).events) c.loop-session.reactor.core c.first_visit.new.reactor.core c.in_ok-first_visit.field-0 c.in_ok-first_visit.ensures.visited);
-      owned = subst O {x = c.loop-session.slots.items ++ c.in_ok-first_visit.field-0 ∷ []} (sym {A = List Slot} c.push_reserved.ensures.items) (owned-first c.loop-session.wire c.loop-session.slots.items (tags c.loop-session.reactor.core.sources) (tags c.first_visit.new.reactor.core.sources) c.in_ok-first_visit.field-0
+          (first-open c.session-item.result c.loop-session.wire ((g.O.Tells.outer c.loop-session.outside).events)
+          ((g.O.Tells.outer c.first_visit.new.outside).events)
+          c.loop-session.reactor.core c.first_visit.new.reactor.core c.in_ok-first_visit.field-0
+          c.in_ok-first_visit.ensures.visited);
+      owned = subst O {x = c.loop-session.slots.items ++ c.in_ok-first_visit.field-0 ∷ []}
+          (sym {A = List Slot} c.push_reserved.ensures.items)
+          (owned-first c.loop-session.wire c.loop-session.slots.items (tags c.loop-session.reactor.core.sources)
+          (tags c.first_visit.new.reactor.core.sources) c.in_ok-first_visit.field-0
           (c.loop-session.invariant.wire ∙ here) c.in_ok-first_visit.ensures.tags c.loop-session.invariant.owned);
       poller = c.in_ok-first_visit.ensures.cause ∙ c.loop-session.invariant.poller;
       timers = made ∙ c.loop-session.invariant.timers;
       keeps = λ room. keeps-then (part.All room) _ _ _ (c.loop-session.invariant.keeps room) (visit-in-all c.loop-session.wire room _ _ c.first_visit.ensures.keeps);
       counted = subst A {x = c.loop-session.slots.items ++ c.in_ok-first_visit.field-0 ∷ []} (sym {A = List Slot} c.push_reserved.ensures.items)
-          (all-more c.loop-session.wire c.loop-session.slots.items c.in_ok-first_visit.field-0 _ _ _ (c.loop-session.invariant.wire ∙ here) (fell-all 0 _ _ (c.loop-session.invariant.keeps 0)) c.first_visit.ensures.keeps c.loop-session.invariant.counted c.in_ok-first_visit.ensures.counted);
+          (all-more c.loop-session.wire c.loop-session.slots.items c.in_ok-first_visit.field-0 _ _ _
+          (c.loop-session.invariant.wire ∙ here) (fell-all 0 _ _ (c.loop-session.invariant.keeps 0))
+          c.first_visit.ensures.keeps c.loop-session.invariant.counted c.in_ok-first_visit.ensures.counted);
       reports = c.in_ok-first_visit.ensures.reports ∙ c.loop-session.invariant.reports;
     }
 
 pub returns-clause-went : goal.returns-clause-went
 returns-clause-went g c = λ rounds.
     let none : length c.deref-session-items.result.now - c.loop-session.session-index ≡ 0 = omega (arith, c.loop-session-test.false) in
-    let W : ℕ → Type 0 = λ n. CallStandsAfter c.deref-session-items.result.now rounds (counting n c.loop-session.session-index) 0 c.args.reactor.now.core ((g.O.Tells.outer c.args.outside.now).events) ((g.O.Tells.outer c.loop-session.outside).events) c.loop-session.reactor.core c.loop-session.slots.items in
-    let U : List Session → Type 0 = λ x. CallStandsAfter x rounds [] 0 c.args.reactor.now.core ((g.O.Tells.outer c.args.outside.now).events) ((g.O.Tells.outer c.loop-session.outside).events) c.loop-session.reactor.core c.loop-session.slots.items in
+    let W : ℕ → Type 0 =
+    λ n. CallStandsAfter c.deref-session-items.result.now rounds (counting n c.loop-session.session-index) 0
+    c.args.reactor.now.core ((g.O.Tells.outer c.args.outside.now).events)
+    ((g.O.Tells.outer c.loop-session.outside).events) c.loop-session.reactor.core c.loop-session.slots.items in
+    let U : List Session → Type 0 =
+    λ x. CallStandsAfter x rounds [] 0 c.args.reactor.now.core ((g.O.Tells.outer c.args.outside.now).events)
+    ((g.O.Tells.outer c.loop-session.outside).events) c.loop-session.reactor.core c.loop-session.slots.items in
     subst U c.loop-session.invariant.same (subst W none (c.loop-session.invariant.went rounds))
 
 pub returns-clause-rests : goal.returns-clause-rests
 returns-clause-rests g c = (c.loop-session.invariant.went 0).2.rests
 
 pub returns-in_err-first_visit-clause-timers : goal.returns-in_err-first_visit-clause-timers
-returns-in_err-first_visit-clause-timers g c = first-made c.first_visit.result c.session-item.result c.loop-session.wire _ _ _ _ _ c.first_visit.ensures.visited c.first_visit.ensures.refused ∙ c.loop-session.invariant.timers
+returns-in_err-first_visit-clause-timers g c =
+    first-made c.first_visit.result c.session-item.result c.loop-session.wire _ _ _ _ _ c.first_visit.ensures.visited
+    c.first_visit.ensures.refused ∙ c.loop-session.invariant.timers
 
 pub returns-in_err-first_visit-clause-keeps : goal.returns-in_err-first_visit-clause-keeps
 returns-in_err-first_visit-clause-keeps g c = λ room. keeps-then (part.All room) _ _ _ (c.loop-session.invariant.keeps room) (visit-in-all c.loop-session.wire room _ _ c.first_visit.ensures.keeps)

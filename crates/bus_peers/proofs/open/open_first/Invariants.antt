@@ -13,7 +13,10 @@ invariant-loop-session g l = record {
   wire : l.wire ≡ l.session-index;
   len : length l.slots.items ≡ l.session-index;
   room : length l.session-items ≤ vec_capacity l.slots;
-  went : (rounds : ℕ) → CallStandsAfter l.session-items rounds (counting (length l.session-items - l.session-index) l.session-index) 0 l.fn.reactor.core ((g.O.Tells.outer l.fn.outside).events) ((g.O.Tells.outer l.outside).events) l.reactor.core l.slots.items;
+  went : (rounds : ℕ) →
+      CallStandsAfter l.session-items rounds (counting (length l.session-items - l.session-index) l.session-index) 0
+      l.fn.reactor.core ((g.O.Tells.outer l.fn.outside).events) ((g.O.Tells.outer l.outside).events)
+      l.reactor.core l.slots.items;
   stands : AllOpen l.slots.items;
   owned : Owned l.slots.items (tags l.reactor.core.sources);
   poller : (g.O.Tells.outer l.outside).poller_faults ≡ (g.O.Tells.outer l.fn.outside).poller_faults;

@@ -11,26 +11,39 @@ returns-in_err-slots-clause-opened g c =
 
 pub returns-in_err-opened-clause-opened : goal.returns-in_err-opened-clause-opened
 returns-in_err-opened-clause-opened g c =
-    answers-refused (λ endeds. endeds.items) c.from_residual-in_err-opened.result c.in_err-opened.field-0.0 c.args.sessions.now.items c.args.rounds ((g.O.Tells.outer c.args.outside.now).events) ((g.O.Tells.outer c.open_rounds-opened.new.outside).events)
-    ((g.O.Tells.outer c.remove_sources-removed.new.registrar).events) c.args.reactor.now.core c.open_rounds-opened.new.reactor c.remove_sources-removed.new.reactor c.open_rounds-opened.new.slots.items c.from_residual-in_err-opened.ensures.1
+    answers-refused (λ endeds. endeds.items)
+    c.from_residual-in_err-opened.result c.in_err-opened.field-0.0 c.args.sessions.now.items c.args.rounds
+    ((g.O.Tells.outer c.args.outside.now).events) ((g.O.Tells.outer c.open_rounds-opened.new.outside).events)
+    ((g.O.Tells.outer c.remove_sources-removed.new.registrar).events)
+    c.args.reactor.now.core c.open_rounds-opened.new.reactor c.remove_sources-removed.new.reactor
+    c.open_rounds-opened.new.slots.items c.from_residual-in_err-opened.ensures.1
     c.in_err-opened.ensures.halted c.in_err-opened.ensures.refused c.remove_sources-removed.ensures.reactor c.remove_sources-removed.ensures.removals
 
 pub returns-in_err-removed-clause-opened : goal.returns-in_err-removed-clause-opened
 returns-in_err-removed-clause-opened g c =
-    answers-unremoved (λ endeds. endeds.items) c.from_residual-in_err-removed.result c.in_err-removed.field-0.0 c.args.sessions.now.items c.args.rounds ((g.O.Tells.outer c.args.outside.now).events) ((g.O.Tells.outer c.open_rounds-opened.new.outside).events)
+    answers-unremoved (λ endeds. endeds.items)
+    c.from_residual-in_err-removed.result c.in_err-removed.field-0.0 c.args.sessions.now.items c.args.rounds
+    ((g.O.Tells.outer c.args.outside.now).events) ((g.O.Tells.outer c.open_rounds-opened.new.outside).events)
     ((g.O.Tells.outer c.remove_sources-removed.new.registrar).events) c.args.reactor.now.core c.open_rounds-opened.new.reactor c.remove_sources-removed.new.reactor c.open_rounds-opened.new.slots.items
     ((g.O.Tells.outer c.open_rounds-opened.new.outside).poller_faults) ((g.O.Tells.outer c.remove_sources-removed.new.registrar).poller_faults) c.from_residual-in_err-removed.ensures.1
     c.in_ok-opened.ensures.rested c.in_err-removed.ensures.cause c.remove_sources-removed.ensures.reactor c.remove_sources-removed.ensures.removals
 
 pub endeds_in-requires-clause-kept : goal.endeds_in-requires-clause-kept
 endeds_in-requires-clause-kept g c =
-    rested-kept c.args.sessions.now.items c.args.rounds c.args.reactor.now.core ((g.O.Tells.outer c.args.outside.now).events) ((g.O.Tells.outer c.open_rounds-opened.new.outside).events) c.open_rounds-opened.new.reactor.core c.open_rounds-opened.new.slots.items
+    rested-kept c.args.sessions.now.items c.args.rounds c.args.reactor.now.core
+    ((g.O.Tells.outer c.args.outside.now).events) ((g.O.Tells.outer c.open_rounds-opened.new.outside).events)
+    c.open_rounds-opened.new.reactor.core c.open_rounds-opened.new.slots.items
     c.in_ok-opened.ensures.rested
 
 pub returns-clause-opened : goal.returns-clause-opened
 returns-clause-opened g c =
-    answers-opened (λ endeds. endeds.items) c.endeds_in.result c.args.sessions.now.items c.args.rounds ((g.O.Tells.outer c.args.outside.now).events) ((g.O.Tells.outer c.open_rounds-opened.new.outside).events) ((g.O.Tells.outer c.remove_sources-removed.new.registrar).events)
-    c.args.reactor.now.core c.open_rounds-opened.new.reactor c.remove_sources-removed.new.reactor c.open_rounds-opened.new.slots.items c.requires.built c.in_ok-opened.ensures.len c.open_rounds-opened.ensures.owned
+    answers-opened (λ endeds. endeds.items)
+    c.endeds_in.result c.args.sessions.now.items c.args.rounds ((g.O.Tells.outer c.args.outside.now).events)
+    ((g.O.Tells.outer c.open_rounds-opened.new.outside).events)
+    ((g.O.Tells.outer c.remove_sources-removed.new.registrar).events)
+    c.args.reactor.now.core c.open_rounds-opened.new.reactor c.remove_sources-removed.new.reactor
+    c.open_rounds-opened.new.slots.items c.requires.built c.in_ok-opened.ensures.len
+    c.open_rounds-opened.ensures.owned
     c.in_ok-opened.ensures.rested c.remove_sources-removed.ensures.reactor
     c.in_ok-removed.ensures.told c.endeds_in.ensures.ended c.endeds_in.ensures.err
 
@@ -38,10 +51,16 @@ pub returns-in_err-slots-clause-keeps : goal.returns-in_err-slots-clause-keeps
 returns-in_err-slots-clause-keeps g c = keeps-same (part.All c.args.reactor.now.events) _
 
 pub returns-in_err-opened-clause-keeps : goal.returns-in_err-opened-clause-keeps
-returns-in_err-opened-clause-keeps g c = keeps-then (part.All c.args.reactor.now.events) _ _ _ c.open_rounds-opened.ensures.keeps (poller-in-all c.args.reactor.now.events _ _ c.remove_sources-removed.ensures.keeps)
+returns-in_err-opened-clause-keeps g c =
+    keeps-then (part.All c.args.reactor.now.events)
+    _ _ _ c.open_rounds-opened.ensures.keeps (poller-in-all c.args.reactor.now.events _ _
+    c.remove_sources-removed.ensures.keeps)
 
 pub returns-in_err-removed-clause-keeps : goal.returns-in_err-removed-clause-keeps
-returns-in_err-removed-clause-keeps g c = keeps-then (part.All c.args.reactor.now.events) _ _ _ c.open_rounds-opened.ensures.keeps (poller-in-all c.args.reactor.now.events _ _ c.remove_sources-removed.ensures.keeps)
+returns-in_err-removed-clause-keeps g c =
+    keeps-then (part.All c.args.reactor.now.events)
+    _ _ _ c.open_rounds-opened.ensures.keeps (poller-in-all c.args.reactor.now.events _ _
+    c.remove_sources-removed.ensures.keeps)
 
 pub returns-clause-keeps : goal.returns-clause-keeps
 returns-clause-keeps g c = keeps-then (part.All c.args.reactor.now.events) _ _ _ c.open_rounds-opened.ensures.keeps (poller-in-all c.args.reactor.now.events _ _ c.remove_sources-removed.ensures.keeps)

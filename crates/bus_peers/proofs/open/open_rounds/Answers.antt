@@ -9,8 +9,13 @@ use Rattle.bus_peers.proofs.open.open_rounds.Goals as goal
 
 pub returns-clause-refused : goal.returns-clause-refused
 returns-clause-refused g c =
-    refuses-more c.go_rounds.result ((g.O.Tells.outer c.args.outside.now).events) ((g.O.Tells.outer c.open_first.new.outside).events) ((g.O.Tells.outer c.go_rounds.new.outside).events) c.args.reactor.now.core c.open_first.new.reactor.core c.go_rounds.new.reactor.core
-    (went-told c.args.sessions.now.items 0 0 [] c.args.reactor.now.core ((g.O.Tells.outer c.args.outside.now).events) ((g.O.Tells.outer c.open_first.new.outside).events) c.open_first.new.reactor.core c.open_first.new.slots.items (c.in_ok-open_first.ensures.went 0)) c.go_rounds.ensures.refused
+    refuses-more c.go_rounds.result ((g.O.Tells.outer c.args.outside.now).events)
+    ((g.O.Tells.outer c.open_first.new.outside).events) ((g.O.Tells.outer c.go_rounds.new.outside).events)
+    c.args.reactor.now.core c.open_first.new.reactor.core c.go_rounds.new.reactor.core
+    (went-told c.args.sessions.now.items 0 0 [] c.args.reactor.now.core ((g.O.Tells.outer c.args.outside.now).events)
+    ((g.O.Tells.outer c.open_first.new.outside).events)
+    c.open_first.new.reactor.core c.open_first.new.slots.items (c.in_ok-open_first.ensures.went 0))
+    c.go_rounds.ensures.refused
 
 pub returns-clause-keeps : goal.returns-clause-keeps
 returns-clause-keeps g c =

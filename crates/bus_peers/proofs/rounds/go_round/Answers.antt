@@ -15,30 +15,56 @@ seen : (r0 r1 : Option (List Event)) (old new : Core) (wires woken : List ℕ) �
 seen r0 r1 old new wires woken same x = let P : List ℕ → Type 0 = λ w. (r : Round) × Rounded r0 r1 old new w r in subst P (sym same) x
 
 pub visit_woken-requires-clause-registered : goal.visit_woken-requires-clause-registered
-visit_woken-requires-clause-registered g c = round-wires ((g.O.Tells.outer c.args.outside.now).events) ((g.O.Tells.outer c.round.new.outside).events) c.args.reactor.now.core c.round.new.reactor.core c.as_slice.result.now (seen ((g.O.Tells.outer c.args.outside.now).events) ((g.O.Tells.outer c.round.new.outside).events) c.args.reactor.now.core c.round.new.reactor.core c.as_slice.result.now c.in_ok-woken.woken.items c.as_slice.ensures.value c.in_ok-woken.ensures.rounded) c.in_ok-woken.ensures.tags
+visit_woken-requires-clause-registered g c =
+    round-wires ((g.O.Tells.outer c.args.outside.now).events) ((g.O.Tells.outer c.round.new.outside).events)
+    c.args.reactor.now.core c.round.new.reactor.core c.as_slice.result.now
+    (seen ((g.O.Tells.outer c.args.outside.now).events) ((g.O.Tells.outer c.round.new.outside).events)
+    c.args.reactor.now.core c.round.new.reactor.core c.as_slice.result.now c.in_ok-woken.woken.items
+    c.as_slice.ensures.value c.in_ok-woken.ensures.rounded) c.in_ok-woken.ensures.tags
 
 pub returns-clause-went : goal.returns-clause-went
 returns-clause-went g c =
-    on_ok_weaker c.visit_woken.result (λ went. going-round ((g.O.Tells.outer c.args.outside.now).events) ((g.O.Tells.outer c.round.new.outside).events) ((g.O.Tells.outer c.visit_woken.new.outside).events) c.args.reactor.now.core c.round.new.reactor.core c.visit_woken.new.reactor.core c.args.slots.now.items c.visit_woken.new.slots.items c.as_slice.result.now c.requires.owned
-    (seen ((g.O.Tells.outer c.args.outside.now).events) ((g.O.Tells.outer c.round.new.outside).events) c.args.reactor.now.core c.round.new.reactor.core c.as_slice.result.now c.in_ok-woken.woken.items c.as_slice.ensures.value c.in_ok-woken.ensures.rounded) went) c.visit_woken.ensures.went
+    on_ok_weaker c.visit_woken.result (λ went. going-round ((g.O.Tells.outer c.args.outside.now).events)
+    ((g.O.Tells.outer c.round.new.outside).events) ((g.O.Tells.outer c.visit_woken.new.outside).events)
+    c.args.reactor.now.core c.round.new.reactor.core c.visit_woken.new.reactor.core c.args.slots.now.items
+    c.visit_woken.new.slots.items c.as_slice.result.now c.requires.owned
+    (seen ((g.O.Tells.outer c.args.outside.now).events) ((g.O.Tells.outer c.round.new.outside).events)
+    c.args.reactor.now.core c.round.new.reactor.core c.as_slice.result.now c.in_ok-woken.woken.items
+    c.as_slice.ensures.value c.in_ok-woken.ensures.rounded) went) c.visit_woken.ensures.went
 
 pub returns-clause-told : goal.returns-clause-told
 returns-clause-told g c =
-    on_ok_weaker c.visit_woken.result (λ told. told-both ((g.O.Tells.outer c.args.outside.now).events) ((g.O.Tells.outer c.round.new.outside).events) ((g.O.Tells.outer c.visit_woken.new.outside).events) c.args.reactor.now.core c.round.new.reactor.core c.visit_woken.new.reactor.core
-    (round-told ((g.O.Tells.outer c.args.outside.now).events) ((g.O.Tells.outer c.round.new.outside).events) c.args.reactor.now.core c.round.new.reactor.core c.as_slice.result.now (seen ((g.O.Tells.outer c.args.outside.now).events) ((g.O.Tells.outer c.round.new.outside).events) c.args.reactor.now.core c.round.new.reactor.core c.as_slice.result.now c.in_ok-woken.woken.items c.as_slice.ensures.value c.in_ok-woken.ensures.rounded)) told) c.visit_woken.ensures.told
+    on_ok_weaker c.visit_woken.result (λ told. told-both ((g.O.Tells.outer c.args.outside.now).events)
+    ((g.O.Tells.outer c.round.new.outside).events) ((g.O.Tells.outer c.visit_woken.new.outside).events)
+    c.args.reactor.now.core c.round.new.reactor.core c.visit_woken.new.reactor.core
+    (round-told ((g.O.Tells.outer c.args.outside.now).events) ((g.O.Tells.outer c.round.new.outside).events)
+    c.args.reactor.now.core c.round.new.reactor.core c.as_slice.result.now
+    (seen ((g.O.Tells.outer c.args.outside.now).events) ((g.O.Tells.outer c.round.new.outside).events)
+    c.args.reactor.now.core c.round.new.reactor.core c.as_slice.result.now c.in_ok-woken.woken.items
+    c.as_slice.ensures.value c.in_ok-woken.ensures.rounded)) told) c.visit_woken.ensures.told
 
 pub returns-clause-refused : goal.returns-clause-refused
 returns-clause-refused g c =
-    refuses-more c.visit_woken.result ((g.O.Tells.outer c.args.outside.now).events) ((g.O.Tells.outer c.round.new.outside).events) ((g.O.Tells.outer c.visit_woken.new.outside).events) c.args.reactor.now.core c.round.new.reactor.core c.visit_woken.new.reactor.core
-    (round-told ((g.O.Tells.outer c.args.outside.now).events) ((g.O.Tells.outer c.round.new.outside).events) c.args.reactor.now.core c.round.new.reactor.core c.as_slice.result.now (seen ((g.O.Tells.outer c.args.outside.now).events) ((g.O.Tells.outer c.round.new.outside).events) c.args.reactor.now.core c.round.new.reactor.core c.as_slice.result.now c.in_ok-woken.woken.items c.as_slice.ensures.value c.in_ok-woken.ensures.rounded)) c.visit_woken.ensures.refused
+    refuses-more c.visit_woken.result ((g.O.Tells.outer c.args.outside.now).events)
+    ((g.O.Tells.outer c.round.new.outside).events) ((g.O.Tells.outer c.visit_woken.new.outside).events)
+    c.args.reactor.now.core c.round.new.reactor.core c.visit_woken.new.reactor.core
+    (round-told ((g.O.Tells.outer c.args.outside.now).events) ((g.O.Tells.outer c.round.new.outside).events)
+    c.args.reactor.now.core c.round.new.reactor.core c.as_slice.result.now
+    (seen ((g.O.Tells.outer c.args.outside.now).events) ((g.O.Tells.outer c.round.new.outside).events)
+    c.args.reactor.now.core c.round.new.reactor.core c.as_slice.result.now c.in_ok-woken.woken.items
+    c.as_slice.ensures.value c.in_ok-woken.ensures.rounded)) c.visit_woken.ensures.refused
 
 pub returns-in_err-woken-clause-keeps : goal.returns-in_err-woken-clause-keeps
 returns-in_err-woken-clause-keeps g c = round-in-all c.args.reactor.now.events _ _ c.round.ensures.keeps
 
 pub returns-clause-keeps : goal.returns-clause-keeps
-returns-clause-keeps g c = keeps-then (part.All c.args.reactor.now.events) _ _ _ (round-in-all c.args.reactor.now.events _ _ c.round.ensures.keeps) (c.visit_woken.ensures.keeps c.args.reactor.now.events)
+returns-clause-keeps g c =
+    keeps-then (part.All c.args.reactor.now.events)
+    _ _ _ (round-in-all c.args.reactor.now.events _ _ c.round.ensures.keeps)
+    (c.visit_woken.ensures.keeps c.args.reactor.now.events)
 
 pub returns-clause-counted : goal.returns-clause-counted
 returns-clause-counted g c =
-    on_ok_weaker c.visit_woken.result (λ counted. counts-then c.args.slots.now.items c.args.slots.now.items c.visit_woken.new.slots.items _ _ _ (fell-round c.args.reactor.now.events _ _ c.round.ensures.keeps)
+    on_ok_weaker c.visit_woken.result (λ counted. counts-then c.args.slots.now.items c.args.slots.now.items
+    c.visit_woken.new.slots.items _ _ _ (fell-round c.args.reactor.now.events _ _ c.round.ensures.keeps)
     (counts-same c.args.slots.now.items _ _ (fell-round c.args.reactor.now.events _ _ c.round.ensures.keeps)) counted) c.visit_woken.ensures.counted

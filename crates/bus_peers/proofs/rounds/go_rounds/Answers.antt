@@ -15,45 +15,72 @@ asleep core b idle closed off = λ e. both_ways b off (idle (closed, e))
 
 pub returns-in_err-go_round-clause-refused : goal.returns-in_err-go_round-clause-refused
 returns-in_err-go_round-clause-refused g c =
-    let here : Refuses c.from_residual.result ((g.O.Tells.outer c.loop-done.outside).events) ((g.O.Tells.outer c.go_round.new.outside).events) c.loop-done.reactor.core c.go_round.new.reactor.core = search rules in
-    refuses-more c.from_residual.result ((g.O.Tells.outer c.args.outside.now).events) ((g.O.Tells.outer c.loop-done.outside).events) ((g.O.Tells.outer c.go_round.new.outside).events) c.args.reactor.now.core c.loop-done.reactor.core c.go_round.new.reactor.core c.loop-done.invariant.told here
+    let here : Refuses c.from_residual.result ((g.O.Tells.outer c.loop-done.outside).events)
+    ((g.O.Tells.outer c.go_round.new.outside).events) c.loop-done.reactor.core c.go_round.new.reactor.core =
+    search rules in
+    refuses-more c.from_residual.result ((g.O.Tells.outer c.args.outside.now).events)
+    ((g.O.Tells.outer c.loop-done.outside).events) ((g.O.Tells.outer c.go_round.new.outside).events)
+    c.args.reactor.now.core c.loop-done.reactor.core c.go_round.new.reactor.core c.loop-done.invariant.told here
 
 pub returns-in_err-go_round-clause-stuck : goal.returns-in_err-go_round-clause-stuck
 returns-in_err-go_round-clause-stuck g c =
     let off : c.is_idle.result ≡ false = search rules in
-    let here : OnExhausted c.from_residual.result ((c.go_round.new.reactor ≡ c.loop-done.reactor) × ((g.O.Tells.outer c.go_round.new.outside).events ≡ (g.O.Tells.outer c.loop-done.outside).events) × (c.go_round.new.slots.items ≡ c.loop-done.slots.items)) = search rules in
-    rounds-stuck c.from_residual.result c.args.rounds c.loop-done.done ((g.O.Tells.outer c.args.outside.now).events) ((g.O.Tells.outer c.loop-done.outside).events) ((g.O.Tells.outer c.go_round.new.outside).events) c.args.reactor.now.core c.loop-done.reactor c.go_round.new.reactor c.args.slots.now.items c.loop-done.slots.items c.go_round.new.slots.items
-    c.loop-done.invariant.len c.loop-done.invariant.owned c.loop-done-test.true (asleep c.loop-done.reactor.core c.is_idle.result c.is_idle.ensures.1 c.loop-done.invariant.rests.idle off) c.loop-done.invariant.went here
+    let here : OnExhausted c.from_residual.result ((c.go_round.new.reactor ≡ c.loop-done.reactor) ×
+    ((g.O.Tells.outer c.go_round.new.outside).events ≡ (g.O.Tells.outer c.loop-done.outside).events) ×
+    (c.go_round.new.slots.items ≡ c.loop-done.slots.items)) = search rules in
+    rounds-stuck c.from_residual.result c.args.rounds c.loop-done.done ((g.O.Tells.outer c.args.outside.now).events)
+    ((g.O.Tells.outer c.loop-done.outside).events) ((g.O.Tells.outer c.go_round.new.outside).events)
+    c.args.reactor.now.core c.loop-done.reactor c.go_round.new.reactor c.args.slots.now.items c.loop-done.slots.items
+    c.go_round.new.slots.items
+    c.loop-done.invariant.len c.loop-done.invariant.owned c.loop-done-test.true (asleep c.loop-done.reactor.core
+    c.is_idle.result c.is_idle.ensures.1 c.loop-done.invariant.rests.idle off) c.loop-done.invariant.went here
 
 pub loop-done-preserved : goal.loop-done-preserved
 loop-done-preserved g c =
     let off : c.is_idle.result ≡ false = search rules in
     record {
       few = omega (arith, c.loop-done-test.true);
-      went = rounds-more c.args.rounds c.loop-done.done ((g.O.Tells.outer c.args.outside.now).events) ((g.O.Tells.outer c.loop-done.outside).events) ((g.O.Tells.outer c.go_round.new.outside).events) c.args.reactor.now.core c.loop-done.reactor.core c.go_round.new.reactor.core c.args.slots.now.items c.loop-done.slots.items c.go_round.new.slots.items
-          c.loop-done.invariant.len c.loop-done-test.true (asleep c.loop-done.reactor.core c.is_idle.result c.is_idle.ensures.1 c.loop-done.invariant.rests.idle off) c.loop-done.invariant.went c.in_ok-go_round.ensures.went;
+      went = rounds-more c.args.rounds c.loop-done.done ((g.O.Tells.outer c.args.outside.now).events)
+          ((g.O.Tells.outer c.loop-done.outside).events) ((g.O.Tells.outer c.go_round.new.outside).events)
+          c.args.reactor.now.core c.loop-done.reactor.core c.go_round.new.reactor.core c.args.slots.now.items
+          c.loop-done.slots.items c.go_round.new.slots.items
+          c.loop-done.invariant.len c.loop-done-test.true (asleep c.loop-done.reactor.core c.is_idle.result
+          c.is_idle.ensures.1 c.loop-done.invariant.rests.idle off) c.loop-done.invariant.went
+          c.in_ok-go_round.ensures.went;
       rests = c.in_ok-go_round.ensures.rests;
       stands = c.in_ok-go_round.ensures.stands;
       owned = c.in_ok-go_round.ensures.owned;
       len = c.in_ok-go_round.ensures.len ∙ c.loop-done.invariant.len;
-      told = told-both ((g.O.Tells.outer c.args.outside.now).events) ((g.O.Tells.outer c.loop-done.outside).events) ((g.O.Tells.outer c.go_round.new.outside).events) c.args.reactor.now.core c.loop-done.reactor.core c.go_round.new.reactor.core c.loop-done.invariant.told c.in_ok-go_round.ensures.told;
+      told = told-both ((g.O.Tells.outer c.args.outside.now).events) ((g.O.Tells.outer c.loop-done.outside).events)
+          ((g.O.Tells.outer c.go_round.new.outside).events)
+          c.args.reactor.now.core c.loop-done.reactor.core c.go_round.new.reactor.core c.loop-done.invariant.told
+          c.in_ok-go_round.ensures.told;
       poller = c.in_ok-go_round.ensures.cause ∙ c.loop-done.invariant.poller;
       timers = c.go_round.ensures.timers ∙ c.loop-done.invariant.timers;
       keeps = keeps-then (part.All c.args.reactor.now.events) _ _ _ c.loop-done.invariant.keeps (rw c.loop-done.invariant.reports at c.go_round.ensures.keeps);
-      counted = counts-then c.args.slots.now.items c.loop-done.slots.items c.go_round.new.slots.items _ _ _ (fell-all c.args.reactor.now.events _ _ c.loop-done.invariant.keeps) c.loop-done.invariant.counted c.in_ok-go_round.ensures.counted;
+      counted =
+          counts-then c.args.slots.now.items c.loop-done.slots.items c.go_round.new.slots.items _ _ _
+          (fell-all c.args.reactor.now.events _ _ c.loop-done.invariant.keeps)
+          c.loop-done.invariant.counted c.in_ok-go_round.ensures.counted;
       reports = c.in_ok-go_round.ensures.reports ∙ c.loop-done.invariant.reports;
     }
 
 pub returns-else-not-is_idle-clause-went : goal.returns-else-not-is_idle-clause-went
 returns-else-not-is_idle-clause-went g c =
     let up : c.is_idle.result ≡ true = search rules in
-    rounds-end c.args.rounds c.loop-done.done ((g.O.Tells.outer c.args.outside.now).events) ((g.O.Tells.outer c.loop-done.outside).events) c.args.reactor.now.core c.loop-done.reactor.core c.args.slots.now.items c.loop-done.slots.items c.loop-done.invariant.len
+    rounds-end c.args.rounds c.loop-done.done ((g.O.Tells.outer c.args.outside.now).events)
+    ((g.O.Tells.outer c.loop-done.outside).events)
+    c.args.reactor.now.core c.loop-done.reactor.core c.args.slots.now.items c.loop-done.slots.items
+    c.loop-done.invariant.len
     (inr (c.is_idle.ensures.0 up).1) c.loop-done.invariant.went
 
 pub returns-after-loop-done-clause-went : goal.returns-after-loop-done-clause-went
 returns-after-loop-done-clause-went g c =
     let all : c.loop-done.done ≡ c.args.rounds = omega (arith, c.loop-done.invariant.few, c.loop-done-test.false) in
-    rounds-end c.args.rounds c.loop-done.done ((g.O.Tells.outer c.args.outside.now).events) ((g.O.Tells.outer c.loop-done.outside).events) c.args.reactor.now.core c.loop-done.reactor.core c.args.slots.now.items c.loop-done.slots.items c.loop-done.invariant.len
+    rounds-end c.args.rounds c.loop-done.done ((g.O.Tells.outer c.args.outside.now).events)
+    ((g.O.Tells.outer c.loop-done.outside).events)
+    c.args.reactor.now.core c.loop-done.reactor.core c.args.slots.now.items c.loop-done.slots.items
+    c.loop-done.invariant.len
     (inl all) c.loop-done.invariant.went
 
 pub returns-in_err-go_round-clause-keeps : goal.returns-in_err-go_round-clause-keeps

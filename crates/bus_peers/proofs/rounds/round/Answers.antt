@@ -22,7 +22,12 @@ pub returns-clause-rounded : goal.returns-clause-rounded
 returns-clause-rounded g c =
     let (course, tries, ran) = c.in_ok-react.ensures.ran in
     let (r, x) = rounds-well _ _ _ _ _ _ c.args.reactor.now c.react.new.self _ c.react.new.wakes course tries ran in
-    if_ok _ _ c.in_order.result (λ woken ordered. (r, rounded _ _ c.args.reactor.now.core c.react.new.self.core _ c.react.new.wakes woken.items r x c.requires.rests c.fits.ensures.rises c.new.ensures.items ordered)) c.in_order.ensures.ordered
+    if_ok _ _ c.in_order.result
+    (λ woken ordered. (
+      r,
+      rounded _ _ c.args.reactor.now.core c.react.new.self.core _ c.react.new.wakes woken.items r
+          x c.requires.rests c.fits.ensures.rises c.new.ensures.items ordered,
+    )) c.in_order.ensures.ordered
 
 pub returns-clause-tags : goal.returns-clause-tags
 returns-clause-tags g c =

@@ -24,7 +24,8 @@ read w slots ts c d owned has same is = slice_get_read slots (length slots) w d 
 tagged : (w : ℕ) (slots : List Slot) (ts : Tags) (sl : Sleeper) → Owned slots ts → slice_get slots w ≡ Some (slot.Asleep sl) → tag_at ts sl.key ≡ Some w
 tagged w slots ts sl owned at = owns-at 0 w w slots ts (slot.Asleep sl) (omega arith) at owned.each
 
-sleeper-of : (w : ℕ) (slots : List Slot) (ts : Tags) (d : Slot) → slice_get slots w ≡ Some d → (sl : Sleeper) × (slice_get slots w ≡ Some (slot.Asleep sl)) × (tag_at ts sl.key ≡ Some w) → (sl : Sleeper) × (d ≡ slot.Asleep sl)
+sleeper-of : (w : ℕ) (slots : List Slot) (ts : Tags) (d : Slot) → slice_get slots w ≡ Some d → (sl : Sleeper) ×
+    (slice_get slots w ≡ Some (slot.Asleep sl)) × (tag_at ts sl.key ≡ Some w) → (sl : Sleeper) × (d ≡ slot.Asleep sl)
 sleeper-of w slots ts d at (sl, there, tag) = (sl, same_Some d (slot.Asleep sl) (sym at ∙ there))
 
 open-at : (w : ℕ) (slots : List Slot) (sl : Sleeper) → AllOpen slots → slice_get slots w ≡ Some (slot.Asleep sl) → not sl.client.ended ≡ true
@@ -36,7 +37,9 @@ index_mut-requires g c = omega (arith, within c.args.wire c.args.slots.now.items
 pub unreachable-requires : goal.unreachable-requires
 unreachable-requires g c =
     let at : slice_get c.args.slots.now.items c.args.wire ≡ Some c.index_mut.result.now =
-    read c.args.wire c.args.slots.now.items (tags c.args.reactor.now.core.sources) c.index_mut.result.now c.index_mut.result.now c.requires.owned c.requires.registered refl c.index_mut.ensures.value in
+    read c.args.wire c.args.slots.now.items (tags c.args.reactor.now.core.sources)
+    c.index_mut.result.now c.index_mut.result.now c.requires.owned c.requires.registered refl
+    c.index_mut.ensures.value in
     let s : (sl : Sleeper) × (c.index_mut.result.now ≡ slot.Asleep sl) = sleeper-of c.args.wire c.args.slots.now.items (tags c.args.reactor.now.core.sources) c.index_mut.result.now at
     (asleep-at c.args.wire c.args.slots.now.items (tags c.args.reactor.now.core.sources) c.requires.owned c.requires.registered) in
     c.in_default.not-Asleep s.0 (c.replace-slot.ensures.value ∙ s.1)
@@ -44,24 +47,32 @@ unreachable-requires g c =
 pub visit-requires-clause-holds : goal.visit-requires-clause-holds
 visit-requires-clause-holds g c =
     tag-held c.args.reactor.now.core.sources c.in-Asleep.sleeper.key c.args.wire (tagged c.args.wire c.args.slots.now.items (tags c.args.reactor.now.core.sources) c.in-Asleep.sleeper c.requires.owned
-    (read c.args.wire c.args.slots.now.items (tags c.args.reactor.now.core.sources) (slot.Asleep c.in-Asleep.sleeper) c.index_mut.result.now c.requires.owned c.requires.registered c.in-Asleep.ensures.value c.index_mut.ensures.value))
+    (read c.args.wire c.args.slots.now.items (tags c.args.reactor.now.core.sources) (slot.Asleep c.in-Asleep.sleeper)
+    c.index_mut.result.now c.requires.owned c.requires.registered c.in-Asleep.ensures.value
+    c.index_mut.ensures.value))
 
 pub visit-requires-clause-open : goal.visit-requires-clause-open
 visit-requires-clause-open g c =
     not-true c.in-Asleep.sleeper.client.ended (open-at c.args.wire c.args.slots.now.items c.in-Asleep.sleeper c.requires.stands
-    (read c.args.wire c.args.slots.now.items (tags c.args.reactor.now.core.sources) (slot.Asleep c.in-Asleep.sleeper) c.index_mut.result.now c.requires.owned c.requires.registered c.in-Asleep.ensures.value c.index_mut.ensures.value))
+    (read c.args.wire c.args.slots.now.items (tags c.args.reactor.now.core.sources) (slot.Asleep c.in-Asleep.sleeper)
+    c.index_mut.result.now c.requires.owned c.requires.registered c.in-Asleep.ensures.value
+    c.index_mut.ensures.value))
 
 pub returns-in_err-slots-clause-owned : goal.returns-in_err-slots-clause-owned
 returns-in_err-slots-clause-owned g c =
     let at : slice_get c.args.slots.now.items c.args.wire ≡ Some (slot.Asleep c.in-Asleep.sleeper) =
-    read c.args.wire c.args.slots.now.items (tags c.args.reactor.now.core.sources) (slot.Asleep c.in-Asleep.sleeper) c.index_mut.result.now c.requires.owned c.requires.registered c.in-Asleep.ensures.value c.index_mut.ensures.value in
+    read c.args.wire c.args.slots.now.items (tags c.args.reactor.now.core.sources) (slot.Asleep c.in-Asleep.sleeper)
+    c.index_mut.result.now c.requires.owned c.requires.registered c.in-Asleep.ensures.value
+    c.index_mut.ensures.value in
     owned-refused c.args.wire c.in-Asleep.sleeper.key c.args.slots.now.items (tags c.args.reactor.now.core.sources) (tags c.visit.new.reactor.core.sources) c.replace-slot.new.dest c.requires.owned
     (tagged c.args.wire c.args.slots.now.items (tags c.args.reactor.now.core.sources) c.in-Asleep.sleeper c.requires.owned at) c.replace-slot.ensures.after c.in_err-slots.ensures.refused.1.tags
 
 pub returns-in_err-slots-clause-others : goal.returns-in_err-slots-clause-others
 returns-in_err-slots-clause-others g c = λ w ne.
     let at : slice_get c.args.slots.now.items c.args.wire ≡ Some (slot.Asleep c.in-Asleep.sleeper) =
-    read c.args.wire c.args.slots.now.items (tags c.args.reactor.now.core.sources) (slot.Asleep c.in-Asleep.sleeper) c.index_mut.result.now c.requires.owned c.requires.registered c.in-Asleep.ensures.value c.index_mut.ensures.value in
+    read c.args.wire c.args.slots.now.items (tags c.args.reactor.now.core.sources) (slot.Asleep c.in-Asleep.sleeper)
+    c.index_mut.result.now c.requires.owned c.requires.registered c.in-Asleep.ensures.value
+    c.index_mut.ensures.value in
     ap (has_wire w) c.in_err-slots.ensures.refused.1.tags ∙ other_wire-without (tags c.args.reactor.now.core.sources) c.in-Asleep.sleeper.key c.args.wire w
     (tagged c.args.wire c.args.slots.now.items (tags c.args.reactor.now.core.sources) c.in-Asleep.sleeper c.requires.owned at) ne
 
@@ -71,37 +82,58 @@ index_mut-requires-2 g c = omega (arith, within c.args.wire c.args.slots.now.ite
 pub returns-clause-went : goal.returns-clause-went
 returns-clause-went g c = λ pending.
     let at : slice_get c.args.slots.now.items c.args.wire ≡ Some (slot.Asleep c.in-Asleep.sleeper) =
-    read c.args.wire c.args.slots.now.items (tags c.args.reactor.now.core.sources) (slot.Asleep c.in-Asleep.sleeper) c.index_mut.result.now c.requires.owned c.requires.registered c.in-Asleep.ensures.value c.index_mut.ensures.value in
-    let G : List Slot → Type 0 = λ x. VisitsKeepCall (c.args.wire ∷ pending) pending ((g.O.Tells.outer c.args.outside.now).events) ((g.O.Tells.outer c.visit.new.outside).events) c.args.reactor.now.core c.visit.new.reactor.core c.args.slots.now.items x in
+    read c.args.wire c.args.slots.now.items (tags c.args.reactor.now.core.sources) (slot.Asleep c.in-Asleep.sleeper)
+    c.index_mut.result.now c.requires.owned c.requires.registered c.in-Asleep.ensures.value
+    c.index_mut.ensures.value in
+    let G : List Slot → Type 0 =
+    λ x. VisitsKeepCall (c.args.wire ∷ pending) pending ((g.O.Tells.outer c.args.outside.now).events)
+    ((g.O.Tells.outer c.visit.new.outside).events)
+    c.args.reactor.now.core c.visit.new.reactor.core c.args.slots.now.items x in
     subst G (sym (set-set c.args.slots.now.items c.args.wire c.replace-slot.new.dest c.in_ok-slots.field-0))
-    (going-again c.args.wire pending ((g.O.Tells.outer c.args.outside.now).events) ((g.O.Tells.outer c.visit.new.outside).events) c.args.reactor.now.core c.visit.new.reactor.core c.args.slots.now.items c.in-Asleep.sleeper c.in_ok-slots.field-0
+    (going-again c.args.wire pending ((g.O.Tells.outer c.args.outside.now).events)
+    ((g.O.Tells.outer c.visit.new.outside).events)
+    c.args.reactor.now.core c.visit.new.reactor.core c.args.slots.now.items c.in-Asleep.sleeper c.in_ok-slots.field-0
     at c.in_ok-slots.ensures.visited)
 
 pub returns-clause-stands : goal.returns-clause-stands
 returns-clause-stands g c =
-    let up : is_open_slot c.in_ok-slots.field-0 ≡ true = open-stays c.args.wire c.in-Asleep.sleeper.key ((g.O.Tells.outer c.args.outside.now).events) ((g.O.Tells.outer c.visit.new.outside).events) c.args.reactor.now.core c.visit.new.reactor.core
+    let up : is_open_slot c.in_ok-slots.field-0 ≡ true =
+    open-stays c.args.wire c.in-Asleep.sleeper.key ((g.O.Tells.outer c.args.outside.now).events)
+    ((g.O.Tells.outer c.visit.new.outside).events) c.args.reactor.now.core c.visit.new.reactor.core
     c.in-Asleep.sleeper.client c.in_ok-slots.field-0 c.in_ok-slots.ensures.visited in
-    ap (list_all is_open_slot) (set-set c.args.slots.now.items c.args.wire c.replace-slot.new.dest c.in_ok-slots.field-0) ∙ test-set is_open_slot c.args.slots.now.items c.args.wire c.in_ok-slots.field-0 c.requires.stands up
+    ap (list_all is_open_slot)
+    (set-set c.args.slots.now.items c.args.wire c.replace-slot.new.dest c.in_ok-slots.field-0) ∙
+    test-set is_open_slot c.args.slots.now.items c.args.wire c.in_ok-slots.field-0 c.requires.stands up
 
 pub returns-clause-owned : goal.returns-clause-owned
 returns-clause-owned g c =
     let at : slice_get c.args.slots.now.items c.args.wire ≡ Some (slot.Asleep c.in-Asleep.sleeper) =
-    read c.args.wire c.args.slots.now.items (tags c.args.reactor.now.core.sources) (slot.Asleep c.in-Asleep.sleeper) c.index_mut.result.now c.requires.owned c.requires.registered c.in-Asleep.ensures.value c.index_mut.ensures.value in
+    read c.args.wire c.args.slots.now.items (tags c.args.reactor.now.core.sources) (slot.Asleep c.in-Asleep.sleeper)
+    c.index_mut.result.now c.requires.owned c.requires.registered c.in-Asleep.ensures.value
+    c.index_mut.ensures.value in
     let P : List Slot → Type 0 = λ x. Owned x (tags c.visit.new.reactor.core.sources) in
     subst P (sym (set-set c.args.slots.now.items c.args.wire c.replace-slot.new.dest c.in_ok-slots.field-0))
-    (owned-stays c.args.wire c.in-Asleep.sleeper.key ((g.O.Tells.outer c.args.outside.now).events) ((g.O.Tells.outer c.visit.new.outside).events) c.args.reactor.now.core c.visit.new.reactor.core c.in-Asleep.sleeper.client c.args.slots.now.items
+    (owned-stays c.args.wire c.in-Asleep.sleeper.key ((g.O.Tells.outer c.args.outside.now).events)
+    ((g.O.Tells.outer c.visit.new.outside).events)
+    c.args.reactor.now.core c.visit.new.reactor.core c.in-Asleep.sleeper.client c.args.slots.now.items
     c.in_ok-slots.field-0 c.requires.owned (tagged c.args.wire c.args.slots.now.items (tags c.args.reactor.now.core.sources) c.in-Asleep.sleeper c.requires.owned at) c.in_ok-slots.ensures.visited)
 
 pub returns-clause-others : goal.returns-clause-others
 returns-clause-others g c =
     let at : slice_get c.args.slots.now.items c.args.wire ≡ Some (slot.Asleep c.in-Asleep.sleeper) =
-    read c.args.wire c.args.slots.now.items (tags c.args.reactor.now.core.sources) (slot.Asleep c.in-Asleep.sleeper) c.index_mut.result.now c.requires.owned c.requires.registered c.in-Asleep.ensures.value c.index_mut.ensures.value in
-    others-stay c.args.wire c.in-Asleep.sleeper.key ((g.O.Tells.outer c.args.outside.now).events) ((g.O.Tells.outer c.visit.new.outside).events) c.args.reactor.now.core c.visit.new.reactor.core c.in-Asleep.sleeper.client c.in_ok-slots.field-0
+    read c.args.wire c.args.slots.now.items (tags c.args.reactor.now.core.sources) (slot.Asleep c.in-Asleep.sleeper)
+    c.index_mut.result.now c.requires.owned c.requires.registered c.in-Asleep.ensures.value
+    c.index_mut.ensures.value in
+    others-stay c.args.wire c.in-Asleep.sleeper.key ((g.O.Tells.outer c.args.outside.now).events)
+    ((g.O.Tells.outer c.visit.new.outside).events)
+    c.args.reactor.now.core c.visit.new.reactor.core c.in-Asleep.sleeper.client c.in_ok-slots.field-0
     (tagged c.args.wire c.args.slots.now.items (tags c.args.reactor.now.core.sources) c.in-Asleep.sleeper c.requires.owned at) c.in_ok-slots.ensures.visited
 
 pub returns-clause-told : goal.returns-clause-told
 returns-clause-told g c =
-    stays-told c.args.wire c.in-Asleep.sleeper.key ((g.O.Tells.outer c.args.outside.now).events) ((g.O.Tells.outer c.visit.new.outside).events) c.args.reactor.now.core c.visit.new.reactor.core c.in-Asleep.sleeper.client c.in_ok-slots.field-0
+    stays-told c.args.wire c.in-Asleep.sleeper.key ((g.O.Tells.outer c.args.outside.now).events)
+    ((g.O.Tells.outer c.visit.new.outside).events)
+    c.args.reactor.now.core c.visit.new.reactor.core c.in-Asleep.sleeper.client c.in_ok-slots.field-0
     c.in_ok-slots.ensures.visited
 
 pub returns-in_err-slots-clause-timers : goal.returns-in_err-slots-clause-timers

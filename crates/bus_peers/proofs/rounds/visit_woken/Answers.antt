@@ -14,36 +14,63 @@ next wires i less = rw (add-one, drop-cons wires i 0) refl
 pub overflow_cast-wire : goal.overflow_cast-wire
 overflow_cast-wire g c =
     let less : slice_index_or c.args.woken.now c.loop-wire.wire-index 0 < length c.args.slots.now.items =
-    wire-below (slice_index_or c.args.woken.now c.loop-wire.wire-index 0) (length c.args.slots.now.items) (drop c.loop-wire.wire-index c.args.woken.now) (drop (c.loop-wire.wire-index + 1) c.args.woken.now) c.loop-wire.slots.items (tags c.loop-wire.reactor.core.sources) (next c.args.woken.now c.loop-wire.wire-index c.loop-wire-test.true)
+    wire-below (slice_index_or c.args.woken.now c.loop-wire.wire-index 0) (length c.args.slots.now.items)
+    (drop c.loop-wire.wire-index c.args.woken.now) (drop (c.loop-wire.wire-index + 1) c.args.woken.now)
+    c.loop-wire.slots.items (tags c.loop-wire.reactor.core.sources)
+    (next c.args.woken.now c.loop-wire.wire-index c.loop-wire-test.true)
     c.loop-wire.invariant.registered c.loop-wire.invariant.owned c.loop-wire.invariant.len in
     omega (arith, less, c.requires.few)
 
 pub returns-in_err-visit_slot-clause-refused : goal.returns-in_err-visit_slot-clause-refused
 returns-in_err-visit_slot-clause-refused g c =
-    let here : Refuses c.from_residual.result ((g.O.Tells.outer c.loop-wire.outside).events) ((g.O.Tells.outer c.visit_slot.new.outside).events) c.loop-wire.reactor.core c.visit_slot.new.reactor.core = search rules in
-    refuses-more c.from_residual.result ((g.O.Tells.outer c.args.outside.now).events) ((g.O.Tells.outer c.loop-wire.outside).events) ((g.O.Tells.outer c.visit_slot.new.outside).events) c.args.reactor.now.core c.loop-wire.reactor.core c.visit_slot.new.reactor.core c.loop-wire.invariant.told here
+    let here : Refuses c.from_residual.result ((g.O.Tells.outer c.loop-wire.outside).events)
+    ((g.O.Tells.outer c.visit_slot.new.outside).events) c.loop-wire.reactor.core c.visit_slot.new.reactor.core =
+    search rules in
+    refuses-more c.from_residual.result ((g.O.Tells.outer c.args.outside.now).events)
+    ((g.O.Tells.outer c.loop-wire.outside).events) ((g.O.Tells.outer c.visit_slot.new.outside).events)
+    c.args.reactor.now.core c.loop-wire.reactor.core c.visit_slot.new.reactor.core c.loop-wire.invariant.told here
 
 pub loop-wire-preserved : goal.loop-wire-preserved
 loop-wire-preserved g c = record {
-  went = goes-next (slice_index_or c.args.woken.now c.loop-wire.wire-index 0) c.args.woken.now (drop c.loop-wire.wire-index c.args.woken.now) (drop (c.loop-wire.wire-index + 1) c.args.woken.now) ((g.O.Tells.outer c.args.outside.now).events) ((g.O.Tells.outer c.loop-wire.outside).events) ((g.O.Tells.outer c.visit_slot.new.outside).events) c.args.reactor.now.core c.loop-wire.reactor.core c.visit_slot.new.reactor.core
-      c.args.slots.now.items c.loop-wire.slots.items c.visit_slot.new.slots.items (next c.args.woken.now c.loop-wire.wire-index c.loop-wire-test.true) c.loop-wire.invariant.went c.in_ok-visit_slot.ensures.went;
+  went = goes-next (slice_index_or c.args.woken.now c.loop-wire.wire-index 0)
+      c.args.woken.now (drop c.loop-wire.wire-index c.args.woken.now)
+      (drop (c.loop-wire.wire-index + 1) c.args.woken.now) ((g.O.Tells.outer c.args.outside.now).events)
+      ((g.O.Tells.outer c.loop-wire.outside).events) ((g.O.Tells.outer c.visit_slot.new.outside).events)
+      c.args.reactor.now.core c.loop-wire.reactor.core c.visit_slot.new.reactor.core
+      c.args.slots.now.items c.loop-wire.slots.items c.visit_slot.new.slots.items (next c.args.woken.now
+      c.loop-wire.wire-index c.loop-wire-test.true) c.loop-wire.invariant.went c.in_ok-visit_slot.ensures.went;
   rests = c.in_ok-visit_slot.ensures.rests;
   stands = c.in_ok-visit_slot.ensures.stands;
   owned = c.in_ok-visit_slot.ensures.owned;
   len = c.in_ok-visit_slot.ensures.len ∙ c.loop-wire.invariant.len;
-  rise = rise-next (slice_index_or c.args.woken.now c.loop-wire.wire-index 0) (drop c.loop-wire.wire-index c.args.woken.now) (drop (c.loop-wire.wire-index + 1) c.args.woken.now) (next c.args.woken.now c.loop-wire.wire-index c.loop-wire-test.true) c.loop-wire.invariant.rise;
-  registered = have-rest (slice_index_or c.args.woken.now c.loop-wire.wire-index 0) (drop c.loop-wire.wire-index c.args.woken.now) (drop (c.loop-wire.wire-index + 1) c.args.woken.now) (tags c.loop-wire.reactor.core.sources) (tags c.visit_slot.new.reactor.core.sources) (next c.args.woken.now c.loop-wire.wire-index c.loop-wire-test.true)
+  rise = rise-next (slice_index_or c.args.woken.now c.loop-wire.wire-index 0)
+      (drop c.loop-wire.wire-index c.args.woken.now) (drop (c.loop-wire.wire-index + 1) c.args.woken.now)
+      (next c.args.woken.now c.loop-wire.wire-index c.loop-wire-test.true) c.loop-wire.invariant.rise;
+  registered =
+      have-rest (slice_index_or c.args.woken.now c.loop-wire.wire-index 0)
+      (drop c.loop-wire.wire-index c.args.woken.now) (drop (c.loop-wire.wire-index + 1) c.args.woken.now)
+      (tags c.loop-wire.reactor.core.sources) (tags c.visit_slot.new.reactor.core.sources)
+      (next c.args.woken.now c.loop-wire.wire-index c.loop-wire-test.true)
       c.loop-wire.invariant.rise c.in_ok-visit_slot.ensures.others c.loop-wire.invariant.registered;
-  told = told-both ((g.O.Tells.outer c.args.outside.now).events) ((g.O.Tells.outer c.loop-wire.outside).events) ((g.O.Tells.outer c.visit_slot.new.outside).events) c.args.reactor.now.core c.loop-wire.reactor.core c.visit_slot.new.reactor.core c.loop-wire.invariant.told c.in_ok-visit_slot.ensures.told;
+  told = told-both ((g.O.Tells.outer c.args.outside.now).events) ((g.O.Tells.outer c.loop-wire.outside).events)
+      ((g.O.Tells.outer c.visit_slot.new.outside).events)
+      c.args.reactor.now.core c.loop-wire.reactor.core c.visit_slot.new.reactor.core c.loop-wire.invariant.told
+      c.in_ok-visit_slot.ensures.told;
   poller = c.in_ok-visit_slot.ensures.cause ∙ c.loop-wire.invariant.poller;
   timers = c.visit_slot.ensures.timers ∙ c.loop-wire.invariant.timers;
   keeps = λ room. keeps-then (part.All room) _ _ _ (c.loop-wire.invariant.keeps room) (c.visit_slot.ensures.keeps room);
-  counted = counts-then c.args.slots.now.items c.loop-wire.slots.items c.visit_slot.new.slots.items _ _ _ (fell-all 0 _ _ (c.loop-wire.invariant.keeps 0)) c.loop-wire.invariant.counted c.in_ok-visit_slot.ensures.counted;
+  counted =
+      counts-then c.args.slots.now.items c.loop-wire.slots.items c.visit_slot.new.slots.items _ _ _
+      (fell-all 0 _ _ (c.loop-wire.invariant.keeps 0))
+      c.loop-wire.invariant.counted c.in_ok-visit_slot.ensures.counted;
   reports = c.in_ok-visit_slot.ensures.reports ∙ c.loop-wire.invariant.reports;
 }
 
 pub returns-clause-went : goal.returns-clause-went
-returns-clause-went g c = goes-all c.args.woken.now (drop c.loop-wire.wire-index c.args.woken.now) ((g.O.Tells.outer c.args.outside.now).events) ((g.O.Tells.outer c.loop-wire.outside).events) c.args.reactor.now.core c.loop-wire.reactor.core c.args.slots.now.items c.loop-wire.slots.items
+returns-clause-went g c =
+    goes-all c.args.woken.now (drop c.loop-wire.wire-index c.args.woken.now)
+    ((g.O.Tells.outer c.args.outside.now).events) ((g.O.Tells.outer c.loop-wire.outside).events)
+    c.args.reactor.now.core c.loop-wire.reactor.core c.args.slots.now.items c.loop-wire.slots.items
     (drop_all c.loop-wire.wire-index c.args.woken.now c.loop-wire-test.false) c.loop-wire.invariant.went
 
 pub returns-in_err-visit_slot-clause-keeps : goal.returns-in_err-visit_slot-clause-keeps

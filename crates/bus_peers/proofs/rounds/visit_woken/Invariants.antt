@@ -11,7 +11,8 @@ use Rattle.bus_peers.proofs.rounds.visit_woken.Given as goal
 
 abbrev pub invariant-loop-wire : goal.invariant-loop-wire
 invariant-loop-wire g l = record {
-  went : VisitsKeepCall l.woken (drop l.wire-index l.woken) ((g.O.Tells.outer l.fn.outside).events) ((g.O.Tells.outer l.outside).events) l.fn.reactor.core l.reactor.core l.fn.slots.items l.slots.items;
+  went : VisitsKeepCall l.woken (drop l.wire-index l.woken) ((g.O.Tells.outer l.fn.outside).events)
+      ((g.O.Tells.outer l.outside).events) l.fn.reactor.core l.reactor.core l.fn.slots.items l.slots.items;
   rests : IsBetweenCalls l.reactor.core;
   stands : AllOpen l.slots.items;
   owned : Owned l.slots.items (tags l.reactor.core.sources);

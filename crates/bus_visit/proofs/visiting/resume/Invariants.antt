@@ -4,7 +4,7 @@ use Rattle.react_core.specs.Outer as part
 use Rattle.bus_visit.specs.Registry.{held_at}
 use Rattle.bus_visit.specs.Shown.{shown}
 use Rattle.bus_visit.specs.Visited.{may_ask}
-use Rattle.bus_visit.proofs.PollInVisit.{Turning}
+use Rattle.bus_visit.proofs.TurnLemmas.{Turning}
 use Rattle.bus_visit.proofs.visiting.resume.Given as goal
 
 abbrev pub invariant-loop-ending : goal.invariant-loop-ending

@@ -1,22 +1,24 @@
 use Rattle.std.proofs.Common.{ap}
-use Rattle.bus_visit.specs.declared.visiting.PollEnd.TheVariants as poll_end
-use Rattle.bus_visit.proofs.PollInVisit.{on-err}
+use Rattle.bus_visit.specs.Visited as turn_end
+use Rattle.bus_visit.proofs.TurnLemmas.{on-err}
 use Rattle.bus_visit.proofs.StayLemmas.{keeps-removed, kept-turns, kept-source, turns-source, stays-asleep, stays-ended}
 use Rattle.bus_visit.proofs.VisitFrames.{keeps-visit, ended-counted}
 use Rattle.bus_visit.proofs.visiting.visit.Goals as goal
 
 pub remove_io-requires : goal.remove_io-requires
-remove_io-requires g c = turns-source c.args.wire c.args.sleeper.key _ _ c.args.reactor.now.core c.resume.new.reactor.core c.args.sleeper.client c.resume.new.client (poll_end.Over c.in-Ok-Some.ending) c.requires.holds
+remove_io-requires g c =
+    turns-source c.args.wire c.args.sleeper.key _ _ c.args.reactor.now.core c.resume.new.reactor.core
+    c.args.sleeper.client c.resume.new.client (turn_end.Over c.in-Ok-Some.ending) c.requires.holds
     (rw c.in-Ok-Some.field-0-is at c.in-Ok-Some.ensures.resumed)
 
 pub returns-in_err-remove_io-in-Ok-Some-clause-refused : goal.returns-in_err-remove_io-in-Ok-Some-clause-refused
 returns-in_err-remove_io-in-Ok-Some-clause-refused g c = on-err _ (keeps-removed c.args.sleeper.key c.remove_io.result _ _ _ c.args.reactor.now.core c.resume.new.reactor.core c.remove_io.new.self.core
-    (kept-turns c.args.wire c.args.sleeper.key _ _ c.args.reactor.now.core c.resume.new.reactor.core c.args.sleeper.client c.resume.new.client (poll_end.Over c.in-Ok-Some.ending)
+    (kept-turns c.args.wire c.args.sleeper.key _ _ c.args.reactor.now.core c.resume.new.reactor.core c.args.sleeper.client c.resume.new.client (turn_end.Over c.in-Ok-Some.ending)
     (rw c.in-Ok-Some.field-0-is at c.in-Ok-Some.ensures.resumed)) (ap (λ x. x.core) c.remove_io.ensures.removed) c.remove_io.ensures.told)
 
 pub returns-in_err-ended_of-in-Ok-Some-clause-refused : goal.returns-in_err-ended_of-in-Ok-Some-clause-refused
 returns-in_err-ended_of-in-Ok-Some-clause-refused g c = on-err _ (keeps-removed c.args.sleeper.key c.remove_io.result _ _ _ c.args.reactor.now.core c.resume.new.reactor.core c.remove_io.new.self.core
-    (kept-turns c.args.wire c.args.sleeper.key _ _ c.args.reactor.now.core c.resume.new.reactor.core c.args.sleeper.client c.resume.new.client (poll_end.Over c.in-Ok-Some.ending)
+    (kept-turns c.args.wire c.args.sleeper.key _ _ c.args.reactor.now.core c.resume.new.reactor.core c.args.sleeper.client c.resume.new.client (turn_end.Over c.in-Ok-Some.ending)
     (rw c.in-Ok-Some.field-0-is at c.in-Ok-Some.ensures.resumed)) (ap (λ x. x.core) c.remove_io.ensures.removed) c.remove_io.ensures.told)
 
 pub remove_io-requires-in-Err : goal.remove_io-requires-in-Err
@@ -27,8 +29,11 @@ returns-in-Ok-None-clause-visited g c = stays-asleep c.args.wire c.args.sleeper.
     (rw c.in-Ok-None.field-0-is at c.in-Ok-None.ensures.resumed)
 
 pub returns-in_ok-ended_of-in-Ok-Some-clause-visited : goal.returns-in_ok-ended_of-in-Ok-Some-clause-visited
-returns-in_ok-ended_of-in-Ok-Some-clause-visited g c = stays-ended c.args.wire c.args.sleeper.key _ _ _ c.args.reactor.now.core c.resume.new.reactor.core c.remove_io.new.self.core c.args.sleeper.client c.resume.new.client
-    c.in-Ok-Some.ending c.in_ok-remove_io-in-Ok-Some.field-0 c.in_ok-ended_of-in-Ok-Some.field-0 (rw c.in-Ok-Some.field-0-is at c.in-Ok-Some.ensures.resumed) (ap (λ x. x.core) c.remove_io.ensures.removed)
+returns-in_ok-ended_of-in-Ok-Some-clause-visited g c =
+    stays-ended c.args.wire c.args.sleeper.key _ _ _ c.args.reactor.now.core c.resume.new.reactor.core
+    c.remove_io.new.self.core c.args.sleeper.client c.resume.new.client
+    c.in-Ok-Some.ending c.in_ok-remove_io-in-Ok-Some.field-0 c.in_ok-ended_of-in-Ok-Some.field-0
+    (rw c.in-Ok-Some.field-0-is at c.in-Ok-Some.ensures.resumed) (ap (λ x. x.core) c.remove_io.ensures.removed)
     c.in_ok-remove_io-in-Ok-Some.ensures.told c.in_ok-ended_of-in-Ok-Some.ensures.value
 
 pub returns-in-Err-clause-refused : goal.returns-in-Err-clause-refused
@@ -48,5 +53,7 @@ pub returns-in-Err-clause-keeps : goal.returns-in-Err-clause-keeps
 returns-in-Err-clause-keeps g c = keeps-visit c.args.wire _ _ _ c.resume.ensures.keeps c.remove_io-in-Err.ensures.keeps
 
 pub returns-in_ok-ended_of-in-Ok-Some-clause-counted : goal.returns-in_ok-ended_of-in-Ok-Some-clause-counted
-returns-in_ok-ended_of-in-Ok-Some-clause-counted g c = ended-counted c.args.wire c.in-Ok-Some.ending c.in_ok-ended_of-in-Ok-Some.field-0 _ _ _ (ap (λ e. e.ending) c.in_ok-ended_of-in-Ok-Some.ensures.value)
+returns-in_ok-ended_of-in-Ok-Some-clause-counted g c =
+    ended-counted c.args.wire c.in-Ok-Some.ending c.in_ok-ended_of-in-Ok-Some.field-0 _ _ _
+    (ap (λ e. e.ending) c.in_ok-ended_of-in-Ok-Some.ensures.value)
     (rw c.in-Ok-Some.field-0-is at c.in-Ok-Some.ensures.counted) c.remove_io.ensures.keeps

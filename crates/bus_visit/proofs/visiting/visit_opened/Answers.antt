@@ -1,7 +1,7 @@
 use Rattle.std.proofs.Common.{refl, ap}
 use Rattle.bus_session.specs.Dialling.{conversation}
 use Rattle.bus_visit.specs.Dialled.{as_opened}
-use Rattle.bus_visit.proofs.PollInVisit.{on-err}
+use Rattle.bus_visit.proofs.TurnLemmas.{on-err}
 use Rattle.bus_visit.proofs.FirstVisit.{if-ok, refused-by, insert-keeps, inserted-holds, inserted-rests, inserted-keeps, inserted-tags, inserted-registers}
 use Rattle.react_core.specs.Outer.{keeps-same, poller-in-visit}
 use Rattle.react_core.specs.Outer as part
@@ -19,28 +19,39 @@ visit-requires-clause-holds g c =
 
 pub visit-requires-clause-rests : goal.visit-requires-clause-rests
 visit-requires-clause-rests g c =
-    inserted-rests c.args.reactor.now.core c.insert_io.new.self.core c.args.wire c.in_ok-key.key c.in_ok-key.ensures.free (ap (λ r. r.core) c.in_ok-key.ensures.inserted) c.requires.new c.requires.rests
+    inserted-rests c.args.reactor.now.core c.insert_io.new.self.core c.args.wire c.in_ok-key.key
+    c.in_ok-key.ensures.free (ap (λ r. r.core) c.in_ok-key.ensures.inserted) c.requires.new c.requires.rests
 
 pub returns-clause-visited : goal.returns-clause-visited
 returns-clause-visited g c =
     if-ok c.visit.result
     (λ slot stays.
-    inserted-registers c.args.reactor.now.core c.insert_io.new.self.core c.args.wire c.in_ok-key.key c.in_ok-key.ensures.free (ap (λ r. r.core) c.in_ok-key.ensures.inserted) c.args.session.now (as_opened c.args.opened.now)
-    _ _ _ c.visit.new.reactor.core c.in_ok-client.client slot (conversation c.args.session.now.party (as_opened c.args.opened.now), refl, c.in_ok-client.ensures.stands) c.in_ok-client.ensures.written c.in_ok-key.ensures.told stays)
+    inserted-registers c.args.reactor.now.core c.insert_io.new.self.core c.args.wire c.in_ok-key.key
+    c.in_ok-key.ensures.free (ap (λ r. r.core) c.in_ok-key.ensures.inserted) c.args.session.now (as_opened c.args.opened.now)
+    _ _ _ c.visit.new.reactor.core c.in_ok-client.client slot (
+      conversation c.args.session.now.party (as_opened c.args.opened.now),
+      refl,
+      c.in_ok-client.ensures.stands,
+    ) c.in_ok-client.ensures.written
+    c.in_ok-key.ensures.told stays)
     c.visit.ensures.visited
 
 pub returns-clause-tags : goal.returns-clause-tags
 returns-clause-tags g c =
     if-ok c.visit.result
     (λ slot stays.
-    inserted-tags c.args.reactor.now.core c.insert_io.new.self.core c.args.wire c.in_ok-key.key c.in_ok-key.ensures.free (ap (λ r. r.core) c.in_ok-key.ensures.inserted) _ _ c.visit.new.reactor.core c.in_ok-client.client slot c.requires.new stays)
+    inserted-tags c.args.reactor.now.core c.insert_io.new.self.core c.args.wire c.in_ok-key.key
+    c.in_ok-key.ensures.free (ap (λ r. r.core) c.in_ok-key.ensures.inserted)
+    _ _ c.visit.new.reactor.core c.in_ok-client.client slot c.requires.new stays)
     c.visit.ensures.visited
 
 pub returns-clause-refused : goal.returns-clause-refused
 returns-clause-refused g c =
     refused-by c.visit.result
     (λ keeps.
-    inserted-keeps c.args.reactor.now.core c.insert_io.new.self.core c.args.wire c.in_ok-key.key c.in_ok-key.ensures.free (ap (λ r. r.core) c.in_ok-key.ensures.inserted) _ _ _ c.visit.new.reactor.core c.in_ok-key.ensures.told keeps)
+    inserted-keeps c.args.reactor.now.core c.insert_io.new.self.core c.args.wire c.in_ok-key.key
+    c.in_ok-key.ensures.free (ap (λ r. r.core) c.in_ok-key.ensures.inserted)
+    _ _ _ c.visit.new.reactor.core c.in_ok-key.ensures.told keeps)
     c.visit.ensures.refused
 
 pub returns-in_err-client-clause-keeps : goal.returns-in_err-client-clause-keeps

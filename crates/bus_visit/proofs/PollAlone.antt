@@ -1,11 +1,10 @@
 -- How the events of one poll go through for the session alone, from any history at which its conversation stands.
-use Rattle.std.proofs.Common.{◌≡◌, ℕ, ◌+◌, Bool, true, false, eq-eqb, List, [], ◌∷◌, ◌++◌, Option, Some, None, length, refl, sym, ◌∙◌, ap, subst, inl, inr, arith, nat_le, ◌&&◌}
+use Rattle.std.proofs.Common.{◌≡◌, ℕ, ◌+◌, Bool, true, false, eq-eqb, List, [], ◌∷◌, ◌++◌, Option, Some, None, Ok, length, refl, sym, ◌∙◌, ap, subst, inl, inr, arith, nat_le, ◌&&◌}
 use Rattle.std.specs.List.{flat_map}
 use Rattle.std.specs.Option.{option_map, option_and_then}
 use Rattle.std.specs.Str.{bytes_eq}
 use Rattle.std.proofs.lemmas.List.{append_assoc, append-nil, length-append}
 use Rattle.std.proofs.lemmas.Bool.Decides.{nat_tests}
-use Rattle.react_core.specs.Told.{told}
 use Rattle.react_core.specs.declared.outside.Event.{Event}
 use Rattle.react_core.specs.declared.outside.Event.TheVariants as event
 use Rattle.react_core.specs.declared.outside.RecvAnswer.{RecvAnswer}
@@ -16,7 +15,7 @@ use Rattle.react_core.specs.declared.reactor.Dir.{Dir}
 use Rattle.react_core.specs.declared.reactor.Dir.TheVariants.{Read, Write}
 use Rattle.bus_opening.specs.Talk.{Said, Ask, ask, left}
 use Rattle.bus_opening.specs.Openings.{Opening, StandsIn, written_of, rest_of}
-use Rattle.bus_opening.specs.Polling.{IsAsked, AreAsked, Moved, AllMoved, bytes_got, bytes_taken, Asks, Concludes, Polls, Leaves}
+use Rattle.bus_opening.specs.Polling.{IsAsked, AreAsked, Moved, AllMoved, bytes_got, bytes_taken, Asks, Concludes, Polls, Leaves, IoCounted}
 use Rattle.bus_opening.specs.declared.verdict.Verdict.{Verdict}
 use Rattle.bus_opening.specs.declared.verdict.Verdict.TheVariants as verdict
 use Rattle.bus_opening.specs.declared.verdict.Step.{Step}
@@ -25,12 +24,11 @@ use Rattle.bus_session.specs.declared.ended.Ending.{Ending}
 use Rattle.bus_session.specs.declared.ended.Ending.TheVariants as ending
 use Rattle.bus_session.specs.declared.session.Party.{Party}
 use Rattle.bus_session.specs.Alone.{Progress, Course, converses, after, after_recv, after_send, concluded, goes_through, outcome_of}
-use Rattle.bus_visit.specs.Registry.{Held, registry, noted}
-use Rattle.bus_visit.specs.Asking.{asks, begins, after_stop}
-use Rattle.bus_visit.specs.Calls.{IsCall, AreCalls}
-use Rattle.bus_visit.specs.Counts.{waits_in}
-use Rattle.bus_visit.specs.Conversed.{stands_at, EndsAs, GoesOn, ending_of}
-use Rattle.bus_visit.specs.laws.Records.{registry-append, asks-append, goes-append, waits_in-append}
+use Rattle.bus_visit.specs.Asking.{asks}
+use Rattle.bus_visit.specs.Calls.{IsCall, AreCalls, AllAnswered, StopsAt}
+use Rattle.bus_visit.specs.Conversed.{stands_at, ending_of, is_awake, CallsOf, Ends, Stops, ConversesTo, IsInterrupted, ConversedCounted}
+use Rattle.bus_visit.specs.declared.conversing.Conversed.TheVariants as conversed
+use Rattle.bus_visit.specs.laws.Records.{goes-append, answered-append}
 
 pub bytes_eq-refl : (bytes : List ℕ) → bytes_eq bytes bytes ≡ true
 bytes_eq-refl [] = refl
@@ -47,23 +45,11 @@ asked-calls : (talk : List (List ℕ) → Said) (wire : ℕ) (b : List ℕ) (w :
 asked-calls talk wire b w [] h = tt {0}
 asked-calls talk wire b w (e ∷ events) (h, hs) = (asked-call _ wire e h, asked-calls talk wire (b ++ bytes_got e) (w + length (bytes_taken e)) events hs)
 
-moved-asks : (h : Held) (events : List Event) → AllMoved events → asks (Some (begins h)) events ≡ Some (begins h)
-moved-asks h [] m = refl
-moved-asks h (event.Recv on size (recv_answer.Got bytes) ∷ events) (m, ms) = moved-asks h events ms
-moved-asks h (event.Send on offered (send_answer.Took n) ∷ events) (m, ms) = moved-asks h events ms
-moved-asks h (e ∷ events) (m, ms) = absurd m
-
-moved-shows : (held : List Held) (events : List Event) → AllMoved events → registry held events ≡ held
-moved-shows held [] m = refl
-moved-shows held (event.Recv on size (recv_answer.Got bytes) ∷ events) (m, ms) = moved-shows held events ms
-moved-shows held (event.Send on offered (send_answer.Took n) ∷ events) (m, ms) = moved-shows held events ms
-moved-shows held (e ∷ events) (m, ms) = absurd m
-
-moved-waits : (events : List Event) → AllMoved events → waits_in events ≡ 0
-moved-waits [] m = refl
-moved-waits (event.Recv on size (recv_answer.Got bytes) ∷ events) (m, ms) = moved-waits events ms
-moved-waits (event.Send on offered (send_answer.Took n) ∷ events) (m, ms) = moved-waits events ms
-moved-waits (e ∷ events) (m, ms) = absurd m
+moved-answered : (events : List Event) → AllMoved events → AllAnswered events
+moved-answered [] m = tt {0}
+moved-answered (event.Recv on size (recv_answer.Got bytes) ∷ events) (m, ms) = (tt {0}, moved-answered events ms)
+moved-answered (event.Send on offered (send_answer.Took n) ∷ events) (m, ms) = (tt {0}, moved-answered events ms)
+moved-answered (e ∷ events) (m, ms) = absurd m
 
 -- a conversation at which these bytes came and those were taken
 abbrev at : Party → (List (List ℕ) → Said) → List ℕ → List ℕ → Option Dir → Course
@@ -106,7 +92,9 @@ asked-last talk wire b w [] fs h = rw (append-nil b, append-nil w) h
 asked-last talk wire b w (e ∷ es) fs (h, hs) =
     let longer : length w + length (bytes_taken e) ≡ length (w ++ bytes_taken e) = sym (length-append w (bytes_taken e)) in
     let onward : AreAsked talk wire (b ++ bytes_got e) (length (w ++ bytes_taken e)) (es ++ fs) = subst (λ n. AreAsked talk wire (b ++ bytes_got e) n (es ++ fs)) longer hs in
-    let later : AreAsked talk wire (b ++ bytes_got e ++ flat_map bytes_got es) (length (w ++ bytes_taken e ++ flat_map bytes_taken es)) fs = asked-last talk wire (b ++ bytes_got e) (w ++ bytes_taken e) es fs onward in
+    let later : AreAsked talk wire (b ++ bytes_got e ++ flat_map bytes_got es)
+    (length (w ++ bytes_taken e ++ flat_map bytes_taken es)) fs =
+    asked-last talk wire (b ++ bytes_got e) (w ++ bytes_taken e) es fs onward in
     rw (← append_assoc b (bytes_got e) (flat_map bytes_got es), ← append_assoc w (bytes_taken e) (flat_map bytes_taken es)) later
 
 flat-append : (f : Event → List ℕ) (es fs : List Event) → flat_map f (es ++ fs) ≡ flat_map f es ++ flat_map f fs
@@ -138,18 +126,6 @@ quiet-taken asks wire step.WantRead final f = rw f refl
 quiet-taken asks wire step.WantWrite final (offered, f) = rw f refl
 quiet-taken asks wire step.OutOfMemory final f = rw f refl
 
-final-waits : (asks : Ask → Type 0) (wire : ℕ) (s : Step) (final : List Event) → Concludes asks wire s final → waits_in final ≡ 0
-final-waits asks wire (step.Done (verdict.Authenticated settled)) final (f, h) = rw f refl
-final-waits asks wire (step.Done verdict.Handshake) final (inl (f, h)) = rw f refl
-final-waits asks wire (step.Done verdict.Handshake) final (inr f) = rw f refl
-final-waits asks wire (step.Done verdict.Io) final (inl f) = rw f refl
-final-waits asks wire (step.Done verdict.Io) final (inr (offered, f)) = rw f refl
-final-waits asks wire (step.Done verdict.LineTooLong) final (f, h) = rw f refl
-final-waits asks wire (step.Done verdict.TooManyCommands) final (f, h) = rw f refl
-final-waits asks wire step.WantRead final f = rw f refl
-final-waits asks wire step.WantWrite final (offered, f) = rw f refl
-final-waits asks wire step.OutOfMemory final f = rw f refl
-
 concludes-map : (asks asks' : Ask → Type 0) (wire : ℕ) (s : Step) (final : List Event) → ((a : Ask) → asks a → asks' a) → Concludes asks wire s final → Concludes asks' wire s final
 concludes-map asks asks' wire (step.Done (verdict.Authenticated settled)) final g (f, h) = (f, g _ h)
 concludes-map asks asks' wire (step.Done verdict.Handshake) final g (inl (f, h)) = inl (f, g _ h)
@@ -161,24 +137,15 @@ concludes-map asks asks' wire step.WantRead final g f = f
 concludes-map asks asks' wire step.WantWrite final g f = f
 concludes-map asks asks' wire step.OutOfMemory final g f = f
 
--- at an end it is no NotReady
-final-asks : (asked : Ask → Type 0) (wire : ℕ) (v : Verdict) (h : Held) (final : List Event) → Concludes asked wire (step.Done v) final → asks (Some (begins h)) final ≡ Some (begins h)
-final-asks asked wire (verdict.Authenticated settled) h final (f, k) = rw f refl
-final-asks asked wire verdict.Handshake h final (inl (f, k)) = rw f refl
-final-asks asked wire verdict.Handshake h final (inr f) = rw f refl
-final-asks asked wire verdict.Io h final (inl f) = rw f refl
-final-asks asked wire verdict.Io h final (inr (offered, f)) = rw f refl
-final-asks asked wire verdict.LineTooLong h final (f, k) = rw f refl
-final-asks asked wire verdict.TooManyCommands h final (f, k) = rw f refl
-
-final-shows : (asked : Ask → Type 0) (wire : ℕ) (v : Verdict) (held : List Held) (final : List Event) → Concludes asked wire (step.Done v) final → registry held final ≡ held
-final-shows asked wire (verdict.Authenticated settled) held final (f, k) = rw f refl
-final-shows asked wire verdict.Handshake held final (inl (f, k)) = rw f refl
-final-shows asked wire verdict.Handshake held final (inr f) = rw f refl
-final-shows asked wire verdict.Io held final (inl f) = rw f refl
-final-shows asked wire verdict.Io held final (inr (offered, f)) = rw f refl
-final-shows asked wire verdict.LineTooLong held final (f, k) = rw f refl
-final-shows asked wire verdict.TooManyCommands held final (f, k) = rw f refl
+final-answered : (asked : Ask → Type 0) (wire : ℕ) (v : Verdict) (final : List Event) →
+    Concludes asked wire (step.Done v) final → AllAnswered final
+final-answered asked wire (verdict.Authenticated settled) final (f, h) = rw f (tt {0})
+final-answered asked wire verdict.Handshake final (inl (f, h)) = rw f (tt {0})
+final-answered asked wire verdict.Handshake final (inr f) = rw f (tt {0}, tt {0})
+final-answered asked wire verdict.Io final (inl f) = rw f (tt {0}, tt {0})
+final-answered asked wire verdict.Io final (inr (offered, f)) = rw f (tt {0}, tt {0})
+final-answered asked wire verdict.LineTooLong final (f, h) = rw f (tt {0})
+final-answered asked wire verdict.TooManyCommands final (f, h) = rw f (tt {0})
 
 -- a conversation at which these bytes came and those were taken ends so
 abbrev EndsAt : (List (List ℕ) → Said) → List ℕ → List ℕ → Option Dir → Bool → Ending → Option Course → Type 0
@@ -192,7 +159,8 @@ got-last : (p : Party) (talk : List (List ℕ) → Said) (b w : List ℕ) (pause
     goes_through (Some (at p talk b w paused)) (event.Recv wire 1024 answer ∷ []) ≡ option_map (led p) (after_recv talk (record { got = b; written = w; paused = paused }) answer)
 got-last p talk b w paused wire answer ((asked, same, sized), more) = rw (asked) refl
 
-sent-last : (p : Party) (talk : List (List ℕ) → Said) (b w : List ℕ) (paused : Option Dir) (wire : ℕ) (offered : List ℕ) (answer : SendAnswer) → AreAsked talk wire b (length w) (event.Send wire offered answer ∷ []) →
+sent-last : (p : Party) (talk : List (List ℕ) → Said) (b w : List ℕ) (paused : Option Dir) (wire : ℕ)
+    (offered : List ℕ) (answer : SendAnswer) → AreAsked talk wire b (length w) (event.Send wire offered answer ∷ []) →
     goes_through (Some (at p talk b w paused)) (event.Send wire offered answer ∷ []) ≡ option_map (led p) (after_send talk (record { got = b; written = w; paused = paused }) offered answer)
 sent-last p talk b w paused wire offered answer ((asked, same), more) = rw (asked, bytes_eq-refl offered) refl
 
@@ -213,13 +181,22 @@ stop_step Read = step.WantRead
 stop_step Write = step.WantWrite
 
 -- at a stop it is the NotReady
-stop-asks : (asked : Ask → Type 0) (wire : ℕ) (dir : Dir) (h : Held) (final : List Event) → Concludes asked wire (stop_step dir) final → asks (Some (begins h)) final ≡ Some (after_stop dir (begins h))
-stop-asks asked wire Read h final f = rw f refl
-stop-asks asked wire Write h final (offered, f) = rw f refl
-
-stop-shows : (asked : Ask → Type 0) (wire : ℕ) (dir : Dir) (held : List Held) (final : List Event) → Concludes asked wire (stop_step dir) final → registry held final ≡ noted wire dir held
-stop-shows asked wire Read held final f = rw f refl
-stop-shows asked wire Write held final (offered, f) = rw f refl
+final-stops : (asked : Ask → Type 0) (wire : ℕ) (dir : Dir) (events final : List Event) → AllMoved events →
+    Concludes asked wire (stop_step dir) final → StopsAt wire dir (events ++ final)
+final-stops asked wire Read events final m f = record {
+  answered = events;
+  last = event.Recv wire 1024 recv_answer.NotReady;
+  all = moved-answered events m;
+  stop = refl;
+  whole = ap (λ x. events ++ x) f;
+}
+final-stops asked wire Write events final m (offered, f) = record {
+  answered = events;
+  last = event.Send wire offered send_answer.NotReady;
+  all = moved-answered events m;
+  stop = refl;
+  whole = ap (λ x. events ++ x) f;
+}
 
 stop-through : (p : Party) (talk : List (List ℕ) → Said) (b w : List ℕ) (paused : Option Dir) (wire : ℕ) (dir : Dir) (final : List Event) →
     AreAsked talk wire b (length w) final → Concludes (λ a. ask talk b (length w) ≡ a) wire (stop_step dir) final → goes_through (Some (at p talk b w paused)) final ≡ Some (at p talk b w (Some dir))
@@ -234,28 +211,6 @@ stop-waiting p talk b w wire Write final a (offered, f) = let a' = rw f at a in 
 
 -- ---- a poll
 
--- over each history at which the opening stands, these are calls of the wire
-abbrev pub CallsOf : ℕ → Opening → List Event → Type 0
-CallsOf wire c calls = (talk : List (List ℕ) → Said) (b : List ℕ) → StandsIn talk b c → AreCalls wire calls
-
--- the events of a poll that came to an end
-pub record EndedBy (wire : ℕ) (before after' : Option (List Event)) (old new : Opening) (v : Verdict) (calls : List Event) : Type 0 where
-  pub gained : after' ≡ told before calls
-  pub own : CallsOf wire old calls
-  pub waits : waits_in calls ≡ 0
-  pub asked : (h : Held) → asks (Some (begins h)) calls ≡ Some (begins h)
-  pub shows : (held : List Held) → registry held calls ≡ held
-  pub ends : EndsAs old (ending_of v) new.written new.rest calls
-
--- the events of a poll that a NotReady of this direction stopped
-pub record StoppedBy (wire : ℕ) (dir : Dir) (before after' : Option (List Event)) (old new : Opening) (calls : List Event) : Type 0 where
-  pub gained : after' ≡ told before calls
-  pub own : CallsOf wire old calls
-  pub waits : waits_in calls ≡ 0
-  pub asked : (h : Held) → asks (Some (begins h)) calls ≡ Some (after_stop dir (begins h))
-  pub shows : (held : List Held) → registry held calls ≡ noted wire dir held
-  pub goes : GoesOn old new calls
-
 -- the events of any poll, over a history at which the opening stood
 pub record Polled (wire : ℕ) (old new : Opening) (events final : List Event) (answer : Step) (talk : List (List ℕ) → Said) (b b' w' : List ℕ) : Type 0 where
   pub stands : StandsIn talk b' new
@@ -264,6 +219,13 @@ pub record Polled (wire : ℕ) (old new : Opening) (events final : List Event) (
   pub concludes : Concludes (λ a. ask talk b' (length w') ≡ a) wire answer final
   pub through : (paused : Option Dir) (p : Party) →
       goes_through (Some (stands_at p talk b old paused)) (events ++ final) ≡ goes_through (Some (at p talk b' w' (paused-after paused events))) final
+
+awake-ending : (v : Verdict) → is_awake (ending_of v) ≡ true
+awake-ending (verdict.Authenticated settled) = refl
+awake-ending verdict.Handshake = refl
+awake-ending verdict.Io = refl
+awake-ending verdict.LineTooLong = refl
+awake-ending verdict.TooManyCommands = refl
 
 module _ (wire : ℕ) (before after' : Option (List Event)) (old new : Opening) where
   -- the same questions, where a history is known at which they are asked
@@ -275,15 +237,26 @@ module _ (wire : ℕ) (before after' : Option (List Event)) (old new : Opening) 
       let taken : List ℕ = flat_map bytes_taken polls.events in
       let asked : AreAsked talk wire b (length old.written) calls = polls.moves.asked talk b stands in
       let first : AreAsked talk wire b (length old.written) polls.events = asked-first talk wire b (length old.written) polls.events polls.final asked in
-      let got-so : flat_map bytes_got calls ≡ got = flat-append bytes_got polls.events polls.final ∙ (ap (λ x. got ++ x) (quiet-got (Asks Opening StandsIn written_of new) wire answer polls.final polls.concludes) ∙ append-nil got) in
-      let taken-so : flat_map bytes_taken calls ≡ taken = flat-append bytes_taken polls.events polls.final ∙ (ap (λ x. taken ++ x) (quiet-taken (Asks Opening StandsIn written_of new) wire answer polls.final polls.concludes) ∙ append-nil taken) in
+      let got-so : flat_map bytes_got calls ≡ got =
+      flat-append bytes_got polls.events polls.final ∙
+      (ap (λ x. got ++ x) (quiet-got (Asks Opening StandsIn written_of new) wire answer polls.final polls.concludes) ∙
+      append-nil got) in
+      let taken-so : flat_map bytes_taken calls ≡ taken =
+      flat-append bytes_taken polls.events polls.final ∙
+      (ap (λ x. taken ++ x)
+      (quiet-taken (Asks Opening StandsIn written_of new) wire answer polls.final polls.concludes) ∙
+      append-nil taken) in
       let writes : new.written ≡ old.written ++ taken = polls.moves.taken ∙ ap (λ x. old.written ++ x) taken-so in
       let stands' : StandsIn talk (b ++ got) new = subst (λ x. StandsIn talk (b ++ x) new) got-so (polls.moves.stays talk b stands) in
       record {
         stands = stands';
         written = writes;
         last = asked-last talk wire b old.written polls.events polls.final asked;
-        concludes = concludes-map (Asks Opening StandsIn written_of new) (λ a. ask talk (b ++ got) (length (old.written ++ taken)) ≡ a) wire answer polls.final (λ a h. subst (λ x. ask talk (b ++ got) (length x) ≡ a) writes (h talk (b ++ got) stands')) polls.concludes;
+        concludes =
+            concludes-map (Asks Opening StandsIn written_of new)
+            (λ a. ask talk (b ++ got) (length (old.written ++ taken)) ≡ a)
+            wire answer polls.final (λ a h. subst (λ x. ask talk (b ++ got) (length x) ≡ a) writes
+            (h talk (b ++ got) stands')) polls.concludes;
         through = λ paused p. goes-append (Some (stands_at p talk b old paused)) polls.events polls.final
             ∙ ap (λ t. goes_through t polls.final) (moved-on p talk b old.written paused wire polls.events polls.moved first);
       }
@@ -291,20 +264,18 @@ module _ (wire : ℕ) (before after' : Option (List Event)) (old new : Opening) 
   poll-calls : (answer : Step) (polls : Polls Opening StandsIn written_of wire old new before after' answer) → CallsOf wire old (polls.events ++ polls.final)
   poll-calls answer polls talk b stands = asked-calls talk wire b (length old.written) (polls.events ++ polls.final) (polls.moves.asked talk b stands)
 
-  pub poll-waits : (answer : Step) (polls : Polls Opening StandsIn written_of wire old new before after' answer) → waits_in (polls.events ++ polls.final) ≡ 0
-  poll-waits answer polls = waits_in-append polls.events polls.final ∙ rw (moved-waits polls.events polls.moved, final-waits (Asks Opening StandsIn written_of new) wire answer polls.final polls.concludes) refl
-
-  leaves-end : (v : Verdict) → Leaves Opening StandsIn written_of rest_of new (step.Done v) → (talk : List (List ℕ) → Said) (b : List ℕ) → StandsIn talk b new → new.rest ≡ left talk b (length new.written)
+  leaves-end : (v : Verdict) → Leaves Opening StandsIn written_of rest_of new (step.Done v) →
+      (talk : List (List ℕ) → Said) (b : List ℕ) → StandsIn talk b new → new.rest ≡ left talk b (length new.written)
   leaves-end v h = h
 
-  pub poll-ended : (v : Verdict) (polls : Polls Opening StandsIn written_of wire old new before after' (step.Done v)) → Leaves Opening StandsIn written_of rest_of new (step.Done v) →
-      EndedBy wire before after' old new v (polls.events ++ polls.final)
+  poll-ended : (v : Verdict) (polls : Polls Opening StandsIn written_of wire old new before after' (step.Done v)) → Leaves Opening StandsIn written_of rest_of new (step.Done v) →
+      Ends wire before after' old new (ending_of v) (polls.events ++ polls.final)
   poll-ended v polls leaves = record {
     gained = polls.moves.gained;
     own = poll-calls (step.Done v) polls;
-    waits = poll-waits (step.Done v) polls;
-    asked = λ h. asks-append (Some (begins h)) polls.events polls.final ∙ (ap (λ a. asks a polls.final) (moved-asks h polls.events polls.moved) ∙ final-asks (Asks Opening StandsIn written_of new) wire v h polls.final polls.concludes);
-    shows = λ held. registry-append held polls.events polls.final ∙ (ap (λ x. registry x polls.final) (moved-shows held polls.events polls.moved) ∙ final-shows (Asks Opening StandsIn written_of new) wire v held polls.final polls.concludes);
+    answered = answered-append polls.events polls.final (moved-answered polls.events polls.moved)
+        (final-answered (Asks Opening StandsIn written_of new) wire v polls.final polls.concludes);
+    awake = awake-ending v;
     ends = λ talk b paused p late stands.
         let at' = polled (step.Done v) polls talk b stands in
         let got : List ℕ = b ++ flat_map bytes_got polls.events in
@@ -315,19 +286,19 @@ module _ (wire : ℕ) (before after' : Option (List Event)) (old new : Opening) 
         ∙ rw (at'.written, left-so) refl);
   }
 
-  leaves-stop : (dir : Dir) → Leaves Opening StandsIn written_of rest_of new (stop_step dir) → (talk : List (List ℕ) → Said) (b : List ℕ) → StandsIn talk b new → new.rest ≡ left talk b (length new.written)
+  leaves-stop : (dir : Dir) → Leaves Opening StandsIn written_of rest_of new (stop_step dir) →
+      (talk : List (List ℕ) → Said) (b : List ℕ) → StandsIn talk b new → new.rest ≡ left talk b (length new.written)
   leaves-stop Read h = h
   leaves-stop Write h = h
 
-  pub poll-stopped : (dir : Dir) (polls : Polls Opening StandsIn written_of wire old new before after' (stop_step dir)) → Leaves Opening StandsIn written_of rest_of new (stop_step dir) →
-      StoppedBy wire dir before after' old new (polls.events ++ polls.final)
-  poll-stopped dir polls leaves = record {
+  poll-stopped : (dir : Dir) (polls : Polls Opening StandsIn written_of wire old new before after' (stop_step dir)) → Leaves Opening StandsIn written_of rest_of new (stop_step dir) →
+      new.ended ≡ false → Stops wire before after' old new dir (polls.events ++ polls.final)
+  poll-stopped dir polls leaves unended = record {
     gained = polls.moves.gained;
     own = poll-calls (stop_step dir) polls;
-    waits = poll-waits (stop_step dir) polls;
-    asked = λ h. asks-append (Some (begins h)) polls.events polls.final ∙ (ap (λ a. asks a polls.final) (moved-asks h polls.events polls.moved) ∙ stop-asks (Asks Opening StandsIn written_of new) wire dir h polls.final polls.concludes);
-    shows = λ held. registry-append held polls.events polls.final ∙ (ap (λ x. registry x polls.final) (moved-shows held polls.events polls.moved) ∙ stop-shows (Asks Opening StandsIn written_of new) wire dir held polls.final polls.concludes);
-    goes = λ talk b stands.
+    stops = final-stops (Asks Opening StandsIn written_of new) wire dir polls.events polls.final polls.moved polls.concludes;
+    unended = unended;
+    pauses = λ talk b stands.
         let at' = polled (stop_step dir) polls talk b stands in
         let got : List ℕ = b ++ flat_map bytes_got polls.events in
         let taken : List ℕ = old.written ++ flat_map bytes_taken polls.events in
@@ -342,5 +313,47 @@ module _ (wire : ℕ) (before after' : Option (List Event)) (old new : Opening) 
                 ∙ ap Some (stood p));
             waiting = λ p. ap (outcome_of false) (sym (stood p)) ∙ (stop-waiting p talk got taken wire dir polls.final at'.last at'.concludes ∙ rw (at'.written, left-so) refl);
           },
+          refl,
         );
   }
+
+  -- ---- what a poll's answer is for the session
+
+  pub converses-over : (v : Verdict) (e : Ending) → Polls Opening StandsIn written_of wire old new before after' (step.Done v) →
+      Leaves Opening StandsIn written_of rest_of new (step.Done v) → e ≡ ending_of v →
+      ConversesTo wire before after' old new (conversed.Over e)
+  converses-over v e polls leaves is =
+      subst (λ x. ConversesTo wire before after' old new (conversed.Over x)) (sym is)
+      (polls.events ++ polls.final, poll-ended v polls leaves)
+
+  pub converses-paused : (dir : Dir) → Polls Opening StandsIn written_of wire old new before after' (stop_step dir) →
+      Leaves Opening StandsIn written_of rest_of new (stop_step dir) → new.ended ≡ false →
+      ConversesTo wire before after' old new (conversed.Paused dir)
+  converses-paused dir polls leaves unended = (polls.events ++ polls.final, poll-stopped dir polls leaves unended)
+
+  pub converses-interrupted : Polls Opening StandsIn written_of wire old new before after' step.OutOfMemory →
+      new.ended ≡ false → IsInterrupted wire before after' old new
+  converses-interrupted polls unended = (
+    polls.events ++ polls.final,
+    record {
+      gained = polls.moves.gained;
+      own = poll-calls step.OutOfMemory polls;
+      answered = answered-append polls.events polls.final (moved-answered polls.events polls.moved)
+          (subst AllAnswered (sym polls.concludes) (tt {0}));
+      unended = unended;
+      stands = λ talk b stands. (b ++ flat_map bytes_got (polls.events ++ polls.final), polls.moves.stays talk b stands);
+    },
+  )
+
+verdict-counted : (v : Verdict) (a b : ℕ) → IoCounted (step.Done v) a b →
+    ConversedCounted (Ok (conversed.Over (ending_of v))) a b
+verdict-counted (verdict.Authenticated settled) a b counted = counted
+verdict-counted verdict.Handshake a b counted = counted
+verdict-counted verdict.Io a b counted = counted
+verdict-counted verdict.LineTooLong a b counted = counted
+verdict-counted verdict.TooManyCommands a b counted = counted
+
+pub over-counted : (v : Verdict) (e : Ending) (a b : ℕ) → e ≡ ending_of v → IoCounted (step.Done v) a b →
+    ConversedCounted (Ok (conversed.Over e)) a b
+over-counted v e a b is counted =
+    subst (λ x. ConversedCounted (Ok (conversed.Over x)) a b) (sym is) (verdict-counted v a b counted)

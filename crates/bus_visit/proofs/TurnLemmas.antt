@@ -1,5 +1,6 @@
 -- A turn of a visit: a poll of the conversation, and the note of its stop; and one turn after another.
-use Rattle.std.proofs.Common.{◌≡◌, ◌⊎◌, inl, inr, ℕ, Bool, true, false, List, [], ◌++◌, map, length, Option, Some, None, Result, Ok, Err, OnErr, ◌<◌, ◌^◌, if◌then◌else◌, arith, refl, sym, ◌∙◌, ap, subst}
+use Rattle.std.proofs.Common.{◌≡◌, ◌⊎◌, inl, inr, ℕ, Bool, true, false, List, [], ◌++◌, map, length, Option, Some}
+use Rattle.std.proofs.Common.{None, Result, Ok, Err, OnErr, ◌<◌, ◌^◌, if◌then◌else◌, arith, refl, sym, ◌∙◌, ap, subst}
 use Rattle.std.specs.Option.{option_and_then}
 use Rattle.std.proofs.lemmas.List.{append_assoc, append-nil}
 use Rattle.react_core.specs.Told.{told, told-told}
@@ -7,26 +8,22 @@ use Rattle.react_core.specs.Core.{Core}
 use Rattle.react_core.specs.declared.outside.Event.{Event}
 use Rattle.react_core.specs.declared.reactor.Dir.{Dir}
 use Rattle.react_core.specs.declared.reactor.Dir.TheVariants.{Read, Write}
-use Rattle.bus_opening.specs.Openings.{Opening, StandsIn, written_of, rest_of}
-use Rattle.bus_opening.specs.Polling.{Polls, Leaves}
-use Rattle.bus_opening.specs.declared.verdict.Verdict.{Verdict}
-use Rattle.bus_opening.specs.declared.verdict.Verdict.TheVariants as verdict
-use Rattle.bus_opening.specs.declared.verdict.Step.{Step}
-use Rattle.bus_opening.specs.declared.verdict.Step.TheVariants as step
+use Rattle.bus_opening.specs.Openings.{Opening}
 use Rattle.bus_session.specs.declared.ended.Ending.{Ending}
-use Rattle.bus_visit.specs.declared.visiting.PollEnd.{PollEnd}
-use Rattle.bus_visit.specs.declared.visiting.PollEnd.TheVariants as poll_end
+use Rattle.bus_visit.specs.Visited as turn_end
+use Rattle.bus_visit.specs.declared.conversing.Conversed.TheVariants as conversed
 use Rattle.bus_session.specs.Parts.{part}
 use Rattle.bus_session.specs.Alone.{goes_through, outcome_of}
 use Rattle.bus_visit.specs.Counts.{after_begun, waits_in}
 use Rattle.bus_visit.specs.Registry.{Held, Side, Idle, Waits, Reported, stopped, side_held, stopped_held, held_at, registry}
 use Rattle.bus_visit.specs.Asking.{asks, begins, arms_at}
 use Rattle.bus_visit.specs.Shown.{IsBetweenCalls, shown, Tags, tags}
-use Rattle.bus_visit.specs.Conversed.{is_awake, ending_of, stands_at, GoesOn}
-use Rattle.bus_visit.specs.Visited.{KeepsCall, PollEndsAs, VisitPolls, may_ask, OnAgain}
+use Rattle.bus_visit.specs.Conversed.{stands_at, GoesOn, PausesAt, Stops, ConversesTo, IsInterrupted}
+use Rattle.bus_visit.specs.Visited.{TurnEnd, KeepsCall, TurnEndsAs, Turns, may_ask, OnAgain}
 use Rattle.bus_visit.specs.Noted.{Holds, arms_told, asks_again, NotReadyNoted}
 use Rattle.bus_visit.specs.laws.Records.{registry-append, asks-append, goes-append, waits_in-append, AreCalls-append}
-use Rattle.bus_visit.proofs.PollInRecord.{stop_step, EndedBy, StoppedBy, poll-waits, poll-ended, poll-stopped}
+use Rattle.bus_visit.specs.laws.Records.{answered-asks, answered-shows, answered-waits, stops-asks, stops-shows}
+use Rattle.bus_visit.specs.laws.Records.{stops-waits}
 use Rattle.bus_visit.proofs.NotReadyNotes.{stopped-wire}
 use Rattle.bus_visit.proofs.OtherWiresStay.{noted-keeps}
 use Rattle.bus_visit.specs.laws.Armings.{arming-quiet, arming-apart, arming-waits}
@@ -40,7 +37,8 @@ on-err (Err e) p = p
 no-waits-append : (a b : List Event) → waits_in a ≡ 0 → waits_in b ≡ 0 → waits_in (a ++ b) ≡ 0
 no-waits-append a b none none' = waits_in-append a b ∙ rw (none, none') refl
 
-pub keeps-after : (expected : Tags) (r0 r1 r2 : Option (List Event)) (old mid new : Core) (first : List Event) → r1 ≡ told r0 first → waits_in first ≡ 0 → mid.ticker ≡ old.ticker → mid.made ≡ old.made →
+pub keeps-after : (expected : Tags) (r0 r1 r2 : Option (List Event)) (old mid new : Core) (first : List Event) →
+    r1 ≡ told r0 first → waits_in first ≡ 0 → mid.ticker ≡ old.ticker → mid.made ≡ old.made →
     KeepsCall expected r1 r2 mid new → KeepsCall expected r0 r2 old new
 keeps-after expected r0 r1 r2 old mid new first gained none ticker made (more, k) = (
   first ++ more,
@@ -54,12 +52,13 @@ keeps-after expected r0 r1 r2 old mid new first gained none ticker made (more, k
   },
 )
 
-pub keeps-poll : (wire : ℕ) (r0 r1 : Option (List Event)) (core : Core) (c c' : Opening) (answer : Step) → IsBetweenCalls core → Polls Opening StandsIn written_of wire c c' r0 r1 answer → KeepsCall (tags core.sources) r0 r1 core core
-keeps-poll wire r0 r1 core c c' answer rests polls = (
-  polls.events ++ polls.final,
+pub keeps-lack : (wire : ℕ) (r0 r1 : Option (List Event)) (core : Core) (c c' : Opening) → IsBetweenCalls core →
+    IsInterrupted wire r0 r1 c c' → KeepsCall (tags core.sources) r0 r1 core core
+keeps-lack wire r0 r1 core c c' rests (calls, x) = (
+  calls,
   record {
-    gained = polls.moves.gained;
-    waits = poll-waits wire r0 r1 c c' answer polls;
+    gained = x.gained;
+    waits = answered-waits calls x.answered;
     ticker = refl;
     made = refl;
     tags = refl;
@@ -67,18 +66,13 @@ keeps-poll wire r0 r1 core c c' answer rests polls = (
   },
 )
 
-pub keeps-ready : (wire : ℕ) (r0 r1 r2 : Option (List Event)) (old new : Core) (c c' : Opening) (answer : Step) → Polls Opening StandsIn written_of wire c c' r0 r1 answer →
-    KeepsCall (tags old.sources) r1 r2 old new → KeepsCall (tags old.sources) r0 r2 old new
-keeps-ready wire r0 r1 r2 old new c c' answer polls = keeps-after (tags old.sources) r0 r1 r2 old old new (polls.events ++ polls.final) polls.moves.gained (poll-waits wire r0 r1 c c' answer polls) refl refl
+pub keeps-stop : (wire : ℕ) (dir : Dir) (r0 r1 r2 : Option (List Event)) (old new : Core) (c c' : Opening) →
+    ConversesTo wire r0 r1 c c' (conversed.Paused dir) → KeepsCall (tags old.sources) r1 r2 old new →
+    KeepsCall (tags old.sources) r0 r2 old new
+keeps-stop wire dir r0 r1 r2 old new c c' (calls, x) =
+    keeps-after (tags old.sources) r0 r1 r2 old old new calls x.gained (stops-waits wire dir calls x.stops) refl refl
 
 -- ---- a turn that ends
-
-awake-ending : (v : Verdict) → is_awake (ending_of v) ≡ true
-awake-ending (verdict.Authenticated settled) = refl
-awake-ending verdict.Handshake = refl
-awake-ending verdict.Io = refl
-awake-ending verdict.LineTooLong = refl
-awake-ending verdict.TooManyCommands = refl
 
 none-begun : (n : ℕ) → n < 2 ^ 64 → n ≡ after_begun n 0
 none-begun n fits = omega arith
@@ -86,9 +80,10 @@ none-begun n fits = omega arith
 more-begun : (x y z n : ℕ) → y ≡ after_begun x 0 → z ≡ after_begun y n → z ≡ after_begun x n
 more-begun x y z n e f = omega arith
 
-ended-turn : (wire key : ℕ) (r0 r1 : Option (List Event)) (core : Core) (c c' : Opening) (v : Verdict) (calls : List Event) → Holds core key wire → IsBetweenCalls core → EndedBy wire r0 r1 c c' v calls →
-    VisitPolls wire key r0 r1 core core c c' (poll_end.Over (ending_of v))
-ended-turn wire key r0 r1 core c c' v calls (h, at, own) rests es = (
+pub turned-over : (wire key : ℕ) (r0 r1 : Option (List Event)) (core : Core) (c c' : Opening) (e : Ending) →
+    Holds core key wire → IsBetweenCalls core → ConversesTo wire r0 r1 c c' (conversed.Over e) →
+    Turns wire key r0 r1 core core c c' (turn_end.Over e)
+turned-over wire key r0 r1 core c c' e (h, at, own) rests (calls, es) = (
   h,
   h,
   calls,
@@ -100,25 +95,20 @@ ended-turn wire key r0 r1 core c c' v calls (h, at, own) rests es = (
     wired' = own;
     gained = es.gained ∙ ap (told r0) (sym (append-nil calls));
     own = es.own;
-    asked = es.asked h;
-    shows = es.shows (map shown core.sources);
+    asked = answered-asks h calls es.answered;
+    shows = answered-shows (map shown core.sources) calls es.answered;
     quiet = λ held. refl;
     apart = λ w. refl;
-    waits = ap waits_in (append-nil calls) ∙ es.waits;
+    waits = ap waits_in (append-nil calls) ∙ answered-waits calls es.answered;
     keeps = λ k x there other. there;
     rests = rests;
     ticker = refl;
     made = refl;
     begun = none-begun core.begun rests.fits;
     tags = refl;
-    turned = (refl, awake-ending v, es.ends);
+    turned = (refl, es.awake, es.ends);
   },
 )
-
-pub turned-over : (wire key : ℕ) (r0 r1 : Option (List Event)) (core : Core) (c c' : Opening) (v : Verdict) (e : Ending) → Holds core key wire → IsBetweenCalls core →
-    Polls Opening StandsIn written_of wire c c' r0 r1 (step.Done v) → Leaves Opening StandsIn written_of rest_of c' (step.Done v) → e ≡ ending_of v → VisitPolls wire key r0 r1 core core c c' (poll_end.Over e)
-turned-over wire key r0 r1 core c c' v e holds rests polls leaves is =
-    subst (λ x. VisitPolls wire key r0 r1 core core c c' (poll_end.Over x)) (sym is) (ended-turn wire key r0 r1 core c c' v (polls.events ++ polls.final) holds rests (poll-ended wire r0 r1 c c' v polls leaves))
 
 -- ---- a turn that stops
 
@@ -142,18 +132,21 @@ side-stopped Read h = refl
 side-stopped Write h = refl
 
 -- how the turn ends, by how the direction stood
-turn-cases : (dir : Dir) (c c' : Opening) (calls : List Event) (h : Held) (t : PollEnd) (b : Side) → t ≡ (if asks_again (arms_at dir h b) then poll_end.Again else poll_end.Asleep) →
-    c'.ended ≡ false → GoesOn c c' calls → PollEndsAs c c' calls (arms_at dir h b) (stopped_held dir h) t
+turn-cases : (dir : Dir) (c c' : Opening) (calls : List Event) (h : Held) (t : TurnEnd) (b : Side) → t ≡ (if asks_again (arms_at dir h b) then turn_end.Again else turn_end.Asleep) →
+    c'.ended ≡ false → GoesOn c c' calls → TurnEndsAs c c' calls (arms_at dir h b) (stopped_held dir h) t
 turn-cases dir c c' calls h t Idle is open_ goes =
-    let o : Option (List Event) = arms_at dir h Idle in subst (λ x. PollEndsAs c c' calls o (stopped_held dir h) x) (sym is) (refl, open_, goes)
+    let o : Option (List Event) = arms_at dir h Idle in subst (λ x. TurnEndsAs c c' calls o (stopped_held dir h) x) (sym is) (refl, open_, goes)
 turn-cases dir c c' calls h t Waits is open_ goes =
-    let o : Option (List Event) = arms_at dir h Waits in subst (λ x. PollEndsAs c c' calls o (stopped_held dir h) x) (sym is) (refl, open_, goes)
+    let o : Option (List Event) = arms_at dir h Waits in subst (λ x. TurnEndsAs c c' calls o (stopped_held dir h) x) (sym is) (refl, open_, goes)
 turn-cases dir c c' calls h t Reported is open_ goes =
-    let o : Option (List Event) = arms_at dir h Reported in subst (λ x. PollEndsAs c c' calls o (stopped_held dir h) x) (sym is) (refl, open_, goes)
+    let o : Option (List Event) = arms_at dir h Reported in subst (λ x. TurnEndsAs c c' calls o (stopped_held dir h) x) (sym is) (refl, open_, goes)
 
-stopped-turn : (wire key : ℕ) (dir : Dir) (r0 r1 r2 : Option (List Event)) (old new : Core) (c c' : Opening) (again : Bool) (t : PollEnd) (calls : List Event) (h : Held) →
-    StoppedBy wire dir r0 r1 c c' calls → c'.ended ≡ false → NotReadyNoted wire key dir r1 r2 old new again h → t ≡ (if again then poll_end.Again else poll_end.Asleep) → VisitPolls wire key r0 r2 old new c c' t
-stopped-turn wire key dir r0 r1 r2 old new c c' again t calls h es open_ r is =
+goes-on : (dir : Dir) (c c' : Opening) (calls : List Event) → PausesAt dir c c' calls → GoesOn c c' calls
+goes-on dir c c' calls pauses talk b stands = let x = pauses talk b stands in (x.0, x.1)
+
+stopped-turn : (wire key : ℕ) (dir : Dir) (r0 r1 r2 : Option (List Event)) (old new : Core) (c c' : Opening) (again : Bool) (t : TurnEnd) (calls : List Event) (h : Held) →
+    Stops wire r0 r1 c c' dir calls → NotReadyNoted wire key dir r1 r2 old new again h → t ≡ (if again then turn_end.Again else turn_end.Asleep) → Turns wire key r0 r2 old new c c' t
+stopped-turn wire key dir r0 r1 r2 old new c c' again t calls h es r is =
     let o : Option (List Event) = arms_at dir h (side_held dir h) in (
       h,
       stopped_held dir h,
@@ -166,35 +159,40 @@ stopped-turn wire key dir r0 r1 r2 old new c c' again t calls h es open_ r is =
         wired' = stopped-wire dir h ∙ r.wired;
         gained = r.gained ∙ (ap (λ x. told x (arms_told o)) es.gained ∙ told-told r0 calls (arms_told o));
         own = es.own;
-        asked = es.asked h;
-        shows = es.shows (map shown old.sources) ∙ sym r.shows;
+        asked = stops-asks wire dir calls es.stops h;
+        shows = stops-shows wire dir calls es.stops (map shown old.sources) ∙ sym r.shows;
         quiet = arms_quiet dir h (side_held dir h);
         apart = λ w. arms_apart dir h w (side_held dir h);
-        waits = no-waits-append calls (arms_told o) es.waits (arms_waits dir h (side_held dir h));
+        waits = no-waits-append calls (arms_told o) (stops-waits wire dir calls es.stops) (arms_waits dir h (side_held dir h));
         keeps = λ k x there other. ap (λ y. held_at y k) r.shows ∙ noted-keeps wire dir (map shown old.sources) k x there other;
         rests = r.rests;
         ticker = r.ticker;
         made = r.made;
         begun = r.begun;
         tags = r.tags;
-        turned = turn-cases dir c c' calls h t (side_held dir h) (is ∙ ap (λ x. if x then poll_end.Again else poll_end.Asleep) r.again_so) open_ es.goes;
+        turned = turn-cases dir c c' calls h t (side_held dir h) (is ∙ ap (λ x. if x then turn_end.Again else turn_end.Asleep) r.again_so) es.unended (goes-on dir c c' calls es.pauses);
       },
     )
 
-pub turned-stop : (wire key : ℕ) (dir : Dir) (r0 r1 r2 : Option (List Event)) (old new : Core) (c c' : Opening) (again : Bool) (t : PollEnd) →
-    Polls Opening StandsIn written_of wire c c' r0 r1 (stop_step dir) → Leaves Opening StandsIn written_of rest_of c' (stop_step dir) → c'.ended ≡ false →
-    (h : Held) × NotReadyNoted wire key dir r1 r2 old new again h → t ≡ (if again then poll_end.Again else poll_end.Asleep) → VisitPolls wire key r0 r2 old new c c' t
-turned-stop wire key dir r0 r1 r2 old new c c' again t polls leaves open_ (h, r) is =
-    stopped-turn wire key dir r0 r1 r2 old new c c' again t (polls.events ++ polls.final) h (poll-stopped wire r0 r1 c c' dir polls leaves) open_ r is
+pub turned-stop : (wire key : ℕ) (dir : Dir) (r0 r1 r2 : Option (List Event)) (old new : Core) (c c' : Opening)
+    (again : Bool) (t : TurnEnd) → ConversesTo wire r0 r1 c c' (conversed.Paused dir) →
+    (h : Held) × NotReadyNoted wire key dir r1 r2 old new again h → t ≡ (if again then turn_end.Again else turn_end.Asleep) →
+    Turns wire key r0 r2 old new c c' t
+turned-stop wire key dir r0 r1 r2 old new c c' again t (calls, es) (h, r) is =
+    stopped-turn wire key dir r0 r1 r2 old new c c' again t calls h es r is
 
 -- a stop that asks again leaves less to ask
-onward_go : (dir : Dir) (h : Held) (b : Side) → side_held dir h ≡ b → OnAgain (may_ask (Some (stopped_held dir h))) (may_ask (Some h)) (if asks_again (arms_at dir h b) then poll_end.Again else poll_end.Asleep)
+onward_go : (dir : Dir) (h : Held) (b : Side) → side_held dir h ≡ b →
+    OnAgain (may_ask (Some (stopped_held dir h))) (may_ask (Some h))
+    (if asks_again (arms_at dir h b) then turn_end.Again else turn_end.Asleep)
 onward_go dir h Idle e = tt {0}
 onward_go dir h Waits e = tt {0}
 onward_go Read h Reported e = rw e (omega arith)
 onward_go Write h Reported e = rw e (omega arith)
 
-pub readied-onward : (wire key : ℕ) (dir : Dir) (r1 r2 : Option (List Event)) (old new : Core) (again : Bool) (t : PollEnd) → (h : Held) × NotReadyNoted wire key dir r1 r2 old new again h → t ≡ (if again then poll_end.Again else poll_end.Asleep) →
+pub readied-onward : (wire key : ℕ) (dir : Dir) (r1 r2 : Option (List Event)) (old new : Core) (again : Bool)
+    (t : TurnEnd) → (h : Held) × NotReadyNoted wire key dir r1 r2 old new again h →
+    t ≡ (if again then turn_end.Again else turn_end.Asleep) →
     OnAgain (may_ask (held_at (map shown new.sources) key)) (may_ask (held_at (map shown old.sources) key)) t
 readied-onward wire key dir r1 r2 old new again t (h, r) is = rw (r.now, r.was, is, r.again_so) (onward_go dir h (side_held dir h) refl)
 
@@ -214,8 +212,8 @@ GoesOn-more c c1 c2 es es2 first next = λ talk b stands.
       },
     )
 
-TurnsTo-more : (c c1 c2 : Opening) (es es2 : List Event) (o : Option (List Event)) (h : Held) (t : PollEnd) → GoesOn c c1 es → PollEndsAs c1 c2 es2 o h t → PollEndsAs c c2 (es ++ es2) o h t
-TurnsTo-more c c1 c2 es es2 o h (poll_end.Over e) goes (none, awake, ends) = (
+TurnsTo-more : (c c1 c2 : Opening) (es es2 : List Event) (o : Option (List Event)) (h : Held) (t : TurnEnd) → GoesOn c c1 es → TurnEndsAs c1 c2 es2 o h t → TurnEndsAs c c2 (es ++ es2) o h t
+TurnsTo-more c c1 c2 es es2 o h (turn_end.Over e) goes (none, awake, ends) = (
   none,
   awake,
   λ talk b paused p late stands.
@@ -223,14 +221,14 @@ TurnsTo-more c c1 c2 es es2 o h (poll_end.Over e) goes (none, awake, ends) = (
       ap (option_and_then (outcome_of late)) (goes-append (Some (stands_at p talk b c paused)) es es2 ∙ ap (λ t. goes_through t es2) (one.1.through paused p))
       ∙ ends talk one.0 (Some one.1.dir) p late one.1.stands,
 )
-TurnsTo-more c c1 c2 es es2 o h poll_end.Again goes (none, open_, more) = (none, open_, GoesOn-more c c1 c2 es es2 goes more)
-TurnsTo-more c c1 c2 es es2 o h poll_end.Asleep goes (some, open_, more) = (some, open_, GoesOn-more c c1 c2 es es2 goes more)
+TurnsTo-more c c1 c2 es es2 o h turn_end.Again goes (none, open_, more) = (none, open_, GoesOn-more c c1 c2 es es2 goes more)
+TurnsTo-more c c1 c2 es es2 o h turn_end.Asleep goes (some, open_, more) = (some, open_, GoesOn-more c c1 c2 es es2 goes more)
 
 assoc_arms : (es es2 ms : List Event) → (es ++ []) ++ (es2 ++ ms) ≡ (es ++ es2) ++ ms
 assoc_arms es es2 ms = ap (λ x. x ++ (es2 ++ ms)) (append-nil es) ∙ sym (append_assoc es es2 ms)
 
-pub turns-more : (wire key : ℕ) (r0 r1 r2 : Option (List Event)) (old mid new : Core) (c c1 c2 : Opening) (t : PollEnd) →
-    VisitPolls wire key r0 r1 old mid c c1 poll_end.Again → VisitPolls wire key r1 r2 mid new c1 c2 t → VisitPolls wire key r0 r2 old new c c2 t
+pub turns-more : (wire key : ℕ) (r0 r1 r2 : Option (List Event)) (old mid new : Core) (c c1 c2 : Opening) (t : TurnEnd) →
+    Turns wire key r0 r1 old mid c c1 turn_end.Again → Turns wire key r1 r2 mid new c1 c2 t → Turns wire key r0 r2 old new c c2 t
 turns-more wire key r0 r1 r2 old mid new c c1 c2 t (h, h', es, o, a) (k, k', es2, o2, b) =
     let e : Some k ≡ Some h' = sym b.was ∙ a.now in
     let same : k ≡ h' = cc in
@@ -246,9 +244,14 @@ turns-more wire key r0 r1 r2 old mid new c c1 c2 t (h, h', es, o, a) (k, k', es2
         wired = a.wired;
         now = b.now;
         wired' = b.wired';
-        gained = b.gained ∙ (ap (λ x. told x (es2 ++ arms_told o2)) (a.gained ∙ ap (λ y. told r0 (es ++ arms_told y)) none) ∙ (told-told r0 (es ++ []) (es2 ++ arms_told o2) ∙ ap (told r0) (assoc_arms es es2 (arms_told o2))));
+        gained = b.gained ∙
+            (ap (λ x. told x (es2 ++ arms_told o2)) (a.gained ∙ ap (λ y. told r0 (es ++ arms_told y)) none) ∙
+            (told-told r0 (es ++ []) (es2 ++ arms_told o2) ∙ ap (told r0) (assoc_arms es es2 (arms_told o2))));
         own = λ talk heard stands. let one = goes talk heard stands in AreCalls-append wire es es2 (a.own talk heard stands) (b.own talk one.0 one.1.stands);
-        asked = asks-append (Some (begins h)) es es2 ∙ (ap (λ x. asks x es2) a.asked ∙ (ap (λ y. asks (Some (record { held = h'; over = y })) es2) none ∙ (ap (λ y. asks (Some (begins y)) es2) (sym same) ∙ b.asked)));
+        asked = asks-append (Some (begins h)) es es2 ∙
+            (ap (λ x. asks x es2) a.asked ∙
+            (ap (λ y. asks (Some (record { held = h'; over = y })) es2) none ∙
+            (ap (λ y. asks (Some (begins y)) es2) (sym same) ∙ b.asked)));
         shows = registry-append (map shown old.sources) es es2 ∙ (ap (λ x. registry x es2) a.shows ∙ b.shows);
         quiet = b.quiet;
         apart = b.apart;
@@ -263,26 +266,28 @@ turns-more wire key r0 r1 r2 old mid new c c1 c2 t (h, h', es, o, a) (k, k', es2
       },
     )
 
-pub keeps-turns : (expected : Tags) (wire key : ℕ) (r0 r1 r2 : Option (List Event)) (old mid new : Core) (c c' : Opening) (t : PollEnd) →
-    VisitPolls wire key r0 r1 old mid c c' t → KeepsCall expected r1 r2 mid new → KeepsCall expected r0 r2 old new
+pub keeps-turns : (expected : Tags) (wire key : ℕ) (r0 r1 r2 : Option (List Event)) (old mid new : Core) (c c' : Opening) (t : TurnEnd) →
+    Turns wire key r0 r1 old mid c c' t → KeepsCall expected r1 r2 mid new → KeepsCall expected r0 r2 old new
 keeps-turns expected wire key r0 r1 r2 old mid new c c' t (h, h', es, o, a) kept = keeps-after expected r0 r1 r2 old mid new (es ++ arms_told o) a.gained a.waits a.ticker a.made kept
 
 -- some turns that each asked again, or none so far
 abbrev pub Turning : ℕ → ℕ → Option (List Event) → Option (List Event) → Core → Core → Opening → Opening → Type 0
-Turning wire key r0 r1 old new c c' = ((r1 ≡ r0) × (new ≡ old) × (c' ≡ c)) ⊎ VisitPolls wire key r0 r1 old new c c' poll_end.Again
+Turning wire key r0 r1 old new c c' = ((r1 ≡ r0) × (new ≡ old) × (c' ≡ c)) ⊎ Turns wire key r0 r1 old new c c' turn_end.Again
 
-pub turning-more : (wire key : ℕ) (r0 r1 r2 : Option (List Event)) (old mid new : Core) (c c1 c2 : Opening) (t : PollEnd) →
-    Turning wire key r0 r1 old mid c c1 → VisitPolls wire key r1 r2 mid new c1 c2 t → VisitPolls wire key r0 r2 old new c c2 t
+pub turning-more : (wire key : ℕ) (r0 r1 r2 : Option (List Event)) (old mid new : Core) (c c1 c2 : Opening) (t : TurnEnd) →
+    Turning wire key r0 r1 old mid c c1 → Turns wire key r1 r2 mid new c1 c2 t → Turns wire key r0 r2 old new c c2 t
 turning-more wire key r0 r1 r2 old mid new c c1 c2 t (inl (r, core, client)) turns =
-    subst (λ x. VisitPolls wire key r0 r2 x new c c2 t) core (subst (λ x. VisitPolls wire key x r2 mid new c c2 t) r (subst (λ x. VisitPolls wire key r1 r2 mid new x c2 t) client turns))
+    subst (λ x. Turns wire key r0 r2 x new c c2 t) core (subst (λ x. Turns wire key x r2 mid new c c2 t) r (subst (λ x. Turns wire key r1 r2 mid new x c2 t) client turns))
 turning-more wire key r0 r1 r2 old mid new c c1 c2 t (inr first) turns = turns-more wire key r0 r1 r2 old mid new c c1 c2 t first turns
 
-pub turning-keeps : (wire key : ℕ) (r0 r1 r2 : Option (List Event)) (old mid new : Core) (c c1 : Opening) → Turning wire key r0 r1 old mid c c1 → KeepsCall (tags mid.sources) r1 r2 mid new → KeepsCall (tags old.sources) r0 r2 old new
+pub turning-keeps : (wire key : ℕ) (r0 r1 r2 : Option (List Event)) (old mid new : Core) (c c1 : Opening) →
+    Turning wire key r0 r1 old mid c c1 → KeepsCall (tags mid.sources) r1 r2 mid new →
+    KeepsCall (tags old.sources) r0 r2 old new
 turning-keeps wire key r0 r1 r2 old mid new c c1 (inl (r, core, client)) kept =
     subst (λ x. KeepsCall (tags x.sources) r0 r2 x new) core (subst (λ x. KeepsCall (tags mid.sources) x r2 mid new) r kept)
 turning-keeps wire key r0 r1 r2 old mid new c c1 (inr (h, h', es, o, a)) kept =
     let kept' : KeepsCall (tags old.sources) r1 r2 mid new = subst (λ x. KeepsCall x r1 r2 mid new) a.tags kept in
-    keeps-turns (tags old.sources) wire key r0 r1 r2 old mid new c c1 poll_end.Again (h, h', es, o, a) kept'
+    keeps-turns (tags old.sources) wire key r0 r1 r2 old mid new c c1 turn_end.Again (h, h', es, o, a) kept'
 
 pub turning-holds : (wire key : ℕ) (r0 r1 : Option (List Event)) (old mid : Core) (c c1 : Opening) → Holds old key wire → Turning wire key r0 r1 old mid c c1 → Holds mid key wire
 turning-holds wire key r0 r1 old mid c c1 holds (inl (r, core, client)) = subst (λ x. Holds x key wire) (sym core) holds
@@ -295,3 +300,13 @@ turning-rests wire key r0 r1 old mid c c1 rests (inr (h, h', es, o, a)) = a.rest
 pub turning-open : (wire key : ℕ) (r0 r1 : Option (List Event)) (old mid : Core) (c c1 : Opening) → c.ended ≡ false → Turning wire key r0 r1 old mid c c1 → c1.ended ≡ false
 turning-open wire key r0 r1 old mid c c1 open_ (inl (r, core, client)) = ap (λ x. x.ended) client ∙ open_
 turning-open wire key r0 r1 old mid c c1 open_ (inr (h, h', es, o, a)) = a.turned.1
+
+-- ---- how a turn that was noted ends
+
+pub ends-asleep : (again : Bool) → again ≡ false → turn_end.Asleep ≡ (if again then turn_end.Again else turn_end.Asleep)
+ends-asleep true is = cc
+ends-asleep false is = refl
+
+pub ends-again : (again : Bool) → again ≡ true → turn_end.Again ≡ (if again then turn_end.Again else turn_end.Asleep)
+ends-again true is = refl
+ends-again false is = cc
