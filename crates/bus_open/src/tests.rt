@@ -1,4 +1,5 @@
 //! What no clause says: that calls succeed, the texts of whole runs, and what comes of streams that fail.
 
+mod dialling;
 mod program;
 mod streams;

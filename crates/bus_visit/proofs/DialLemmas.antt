@@ -7,7 +7,7 @@ use Rattle.std.proofs.lemmas.List.{append-nil, take_more, take_all, map-append}
 use Rattle.std.proofs.lemmas.Option.{none-some}
 use Rattle.std.proofs.lemmas.Slice.Eq.{bytes_eq-Decides}
 use Rattle.std.specs.Option.{option_and_then}
-use Rattle.std.specs.Str.{bytes_eq, is_utf8, IsUtf8}
+use Rattle.std.specs.Str.{bytes_eq, is_utf8, IsUtf8, trim}
 use Rattle.std.proofs.lemmas.Str.{IsUtf8-from_is_utf8}
 use Rattle.react_core.specs.declared.outside.Event.{Event}
 use Rattle.react_core.specs.declared.outside.Event.TheVariants as event
@@ -26,7 +26,17 @@ use Rattle.react_core.specs.Told.{told, told-told, told-nothing, dial_told, Coun
 use Rattle.bus_address.specs.declared.tcp.TcpTransportFamily.{TcpTransportFamily}
 use Rattle.bus_address.specs.declared.unix.UnixSocket.{UnixSocket}
 use Rattle.bus_address.specs.declared.unix.UnixSocket.TheVariants as socket
+use Rattle.bus_address.specs.declared.error.AddressKind.{AddressKind}
+use Rattle.bus_address.specs.declared.transport.Transport.{Transport}
+use Rattle.bus_visit.specs.laws.Faults.{rose-within}
+use Rattle.bus_address.specs.Address.{AddressParts}
 use Rattle.bus_address.specs.Parts.{TcpParts, ProgramParts}
+use Rattle.bus_address.specs.Reading.{address}
+use Rattle.bus_opening.specs.declared.config.ClientConfig.{ClientConfig}
+use Rattle.bus_session.specs.declared.ended.AddressReason.TheVariants as reason
+use Rattle.bus_session.specs.declared.session.Party.{Party}
+use Rattle.bus_session.specs.declared.session.Party.TheVariants as party
+use Rattle.bus_session.specs.Dialling.{begins, expects, guid_in, to_given, to_read, given, printed}
 use Rattle.bus_session.specs.declared.ended.Ending.{Ending}
 use Rattle.bus_session.specs.declared.ended.Ending.TheVariants as ending
 use Rattle.bus_session.specs.Dialling.{is_text, to_socket, to_host, to_program, to_peers, over_tcp, fits, the_peers, a_peer}
@@ -35,7 +45,8 @@ use Rattle.bus_session.specs.Dialling.{Dialling, Purpose, asks, the_wire, answer
 use Rattle.bus_session.specs.Dialling.{asks_if, fails, is_same, is_same_peer, is_same_option, are_same}
 use Rattle.bus_visit.specs.declared.dialling.Dialled.{Dialled}
 use Rattle.bus_visit.specs.declared.dialling.Dialled.TheVariants as dialled
-use Rattle.bus_visit.specs.Dialled.{Answered, dials_of, dials_through, as_dialling, DialsTo, DialTold, OpenedAs}
+use Rattle.bus_visit.specs.declared.dialling.Reached.{Reached}
+use Rattle.bus_visit.specs.Dialled.{Answered, dials_of, dials_through, as_dialling, DialsTo, DialTold, ReachTold, OpenedAs}
 use Rattle.bus_visit.specs.Faults.{DialCounted}
 
 -- ---- a question is itself
@@ -354,3 +365,88 @@ module _ {V : Type 0} (f : V → List ℕ) (p : ProgramParts) (path : List ℕ) 
       ∙ (ap (λ x. asks (question.Start x p.arg0 p.args) the_wire) (sym path-is)
       ∙ (ap (λ x. asks (question.Start path x p.args) the_wire) (sym arg0-is)
       ∙ ap (λ x. asks (question.Start path arg0 x) the_wire) (sym args-is)))
+
+-- ---- what ibus printed
+
+module _ (success : Bool) (said bytes text trimmed : List ℕ) (ended : success ≡ true) (bytes-is : bytes ≡ said)
+    (utf8 : is_utf8 bytes ≡ true) (text-is : text ≡ bytes) (trimmed-is : trimmed ≡ trim text) where
+  printed-so : printed success said ≡ given (address trimmed)
+  printed-so =
+      ap (printed success) (sym bytes-is)
+      ∙ (ap (λ b. if b && is_utf8 bytes then given (address (trim bytes)) else fails (ending.Address reason.IbusFailed)) ended
+      ∙ (ap (λ b. if b then given (address (trim bytes)) else fails (ending.Address reason.IbusFailed)) utf8
+      ∙ (ap (λ b. given (address (trim b))) (sym text-is) ∙ ap (λ b. given (address b)) (sym trimmed-is))))
+
+  pub printed-given : (a : AddressParts) → address trimmed ≡ Ok a → printed success said ≡ to_given a.transport
+  printed-given a is = printed-so ∙ ap given is
+
+  pub printed-refused : (refusal : AddressKind) → address trimmed ≡ Err refusal →
+      printed success said ≡ fails (ending.Address reason.IbusFailed)
+  printed-refused refusal is = printed-so ∙ ap given is
+
+-- ---- a party
+
+-- a dialling that stands so, with the GUID that its address names
+pub reach-at : {E : Type 0} (wire : ℕ) (from from' : Dialling) (result : Result Reached E)
+    (r0 r1 : Option (List Event)) → from ≡ from' → ReachTold wire from' result r0 r1 → ReachTold wire from result r0 r1
+reach-at wire from from' result r0 r1 is told_ =
+    let T : Dialling → Type 0 = λ d. ReachTold wire d result r0 r1 in subst T (sym is) told_
+
+pub client-begins : (p : Party) (text read : List ℕ) (config : ClientConfig) → p ≡ party.Client text config →
+    read ≡ text → begins p ≡ to_read (address read)
+client-begins p text read config is same = ap begins is ∙ ap (λ t. to_read (address t)) (sym same)
+
+pub client-expects : (p : Party) (text read : List ℕ) (config : ClientConfig) → p ≡ party.Client text config →
+    read ≡ text → guid_in (address read) ≡ expects p
+client-expects p text read config is same = ap (λ t. guid_in (address t)) same ∙ sym (ap expects is)
+
+pub expected-at : {E : Type 0} (result : Result Reached E) (a b : Option (List ℕ)) → a ≡ b →
+    IfOk result (λ r. r.expected ≡ a) → IfOk result (λ r. r.expected ≡ b)
+expected-at (Ok r) a b is h = h ∙ is
+expected-at (Err e) a b is h = h
+
+-- ---- a host and its peers
+
+pub host-dialled : {E : Type 0} (wire : ℕ) (t : TcpParts) (file text : Option (List ℕ)) (host : List ℕ) (port : ℕ)
+    (family : Option TcpTransportFamily) (found peers : List Peer) (result : Result Dialled E)
+    (r0 r1 r2 : Option (List Event)) → file ≡ t.nonce_file → host ≡ t.host → port ≡ t.port → family ≡ t.family →
+    is_text file ≡ true → text ≡ file → peers ≡ found →
+    r1 ≡ told r0 (event.Dial wire (question.Lookup host port) (dial_answer.Found found) ∷ []) →
+    DialTold wire (to_peers (ending.Address reason.NoAddress) text (filter (fits family) peers)) result r1 r2 →
+    DialTold wire (to_host t) result r0 r2
+host-dialled wire t file text host port family found peers result r0 r1 r2 file-is host-is port-is family-is named
+    text-is peers-is gained rest =
+    let none : Ending = ending.Address reason.NoAddress in
+    let mid : Dialling = to_peers none t.nonce_file (filter (fits t.family) found) in
+    let mid-is : mid ≡ to_peers none text (filter (fits family) peers) =
+    ap (λ f. to_peers none f (filter (fits t.family) found)) (sym file-is)
+    ∙ (ap (λ f. to_peers none f (filter (fits t.family) found)) (sym text-is)
+    ∙ (ap (λ f. to_peers none text (filter (fits f) found)) (sym family-is)
+    ∙ ap (λ p. to_peers none text (filter (fits family) p)) (sym peers-is))) in
+    told-at wire (to_host t) (asks (question.Lookup host port) (the_peers t.family t.nonce_file)) result r0 r2
+    (host-asks t file host port file-is host-is port-is named)
+    (then-told wire (question.Lookup host port) (the_peers t.family t.nonce_file) (dial_answer.Found found) mid result r0 r1
+    r2 refl gained (told-at wire mid (to_peers none text (filter (fits family) peers)) result r1 r2 mid-is rest))
+
+pub program-args : {path text : List ℕ} {arg0 name : Option (List ℕ)} {copied args : List (List ℕ)} → text ≡ path →
+    name ≡ arg0 → copied ≡ args →
+    asks (question.Start path arg0 args) the_wire ≡ asks (question.Start text name copied) the_wire
+program-args {path} {text} {arg0} {name} {copied} {args} path-is name-is args-is =
+    ap (λ x. asks (question.Start x arg0 args) the_wire) (sym path-is)
+    ∙ (ap (λ x. asks (question.Start text x args) the_wire) (sym name-is)
+    ∙ ap (λ x. asks (question.Start text name x) the_wire) (sym args-is))
+
+pub given-transport : {from : Dialling} {a b : Transport} → from ≡ to_given a → b ≡ a → from ≡ to_given b
+given-transport from-is same = from-is ∙ ap to_given (sym same)
+
+-- an answer that was no want of memory, whatever else the result might be
+pub opened-ok : (E F : Type 0) (answer : Result Opened Fault) (d : Dialled) → OpenedAs {E = E} answer (Ok d) →
+    OpenedAs {E = F} answer (Ok d)
+opened-ok E F (Ok opened) d is = is
+opened-ok E F (Err fault.Failed) d is = is
+opened-ok E F (Err fault.OutOfMemory) d is = absurd is
+
+-- a peer could not be reached, after other Dials
+pub failed-counted : {Origin : Type 0} (wire : ℕ) (a b c : Outer Origin) → Keeps (part.Visit wire) a b →
+    Rose (b.dial_faults wire) (c.dial_faults wire) → Rose (a.dial_faults wire) (c.dial_faults wire)
+failed-counted wire a b c k rose = rose-within _ _ _ _ k.dials.1 (omega arith) rose

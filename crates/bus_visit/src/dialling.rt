@@ -91,6 +91,7 @@ fn dial_socket<D: Dialer>(
     ensures told { DialTold wire (to_socket socket.now) result ((D.outer dialer.old).events)
         ((D.outer dialer.new).events) }
     ensures counted { IfOk result (λ d. DialCounted wire d (D.outer dialer.old) (D.outer dialer.new)) }
+    ensures poller { (D.outer dialer.new).poller_faults ≡ (D.outer dialer.old).poller_faults }
     ensures keeps { Keeps (part.Visit wire) (D.outer dialer.old) (D.outer dialer.new) }
 {
     match socket {
@@ -155,6 +156,7 @@ fn dial_program<D: Dialer>(
     ensures told { DialTold wire (to_program program.now) result ((D.outer dialer.old).events)
         ((D.outer dialer.new).events) }
     ensures counted { IfOk result (λ d. DialCounted wire d (D.outer dialer.old) (D.outer dialer.new)) }
+    ensures poller { (D.outer dialer.new).poller_faults ≡ (D.outer dialer.old).poller_faults }
     ensures keeps { Keeps (part.Visit wire) (D.outer dialer.old) (D.outer dialer.new) }
 {
     let Some(path) = text_of(program.path()) else {
@@ -192,6 +194,7 @@ fn read_nonce<D: Dialer>(
     ensures told { DialTold wire (over_tcp (option_copied file.entry) passes) result ((D.outer dialer.old).events)
         ((D.outer dialer.new).events) }
     ensures counted { IfOk result (λ d. DialCounted wire d (D.outer dialer.old) (D.outer dialer.new)) }
+    ensures poller { (D.outer dialer.new).poller_faults ≡ (D.outer dialer.old).poller_faults }
     ensures keeps { Keeps (part.Visit wire) (D.outer dialer.old) (D.outer dialer.new) }
 {
     let Some(file) = file else {
@@ -229,6 +232,7 @@ fn dial_peers<D: Dialer>(
         (to_peers (ending.Address reason.NoAddress) (option_copied file.entry) (filter (fits family) peers.now)) result
         ((D.outer dialer.old).events) ((D.outer dialer.new).events) }
     ensures counted { IfOk result (λ d. DialCounted wire d (D.outer dialer.old) (D.outer dialer.new)) }
+    ensures poller { (D.outer dialer.new).poller_faults ≡ (D.outer dialer.old).poller_faults }
     ensures keeps { Keeps (part.Visit wire) (D.outer dialer.old) (D.outer dialer.new) }
 {
     let mut ending = Ending::Address(AddressReason::NoAddress);
@@ -255,6 +259,7 @@ fn dial_host<D: Dialer>(
     ensures told { DialTold wire (to_host host.now) result ((D.outer dialer.old).events)
         ((D.outer dialer.new).events) }
     ensures counted { IfOk result (λ d. DialCounted wire d (D.outer dialer.old) (D.outer dialer.new)) }
+    ensures poller { (D.outer dialer.new).poller_faults ≡ (D.outer dialer.old).poller_faults }
     ensures keeps { Keeps (part.Visit wire) (D.outer dialer.old) (D.outer dialer.new) }
 {
     let Some(file) = optional_text(host.nonce_file()) else {
@@ -277,6 +282,7 @@ fn dial_given<D: Dialer>(
     ensures told { DialTold wire (to_given transport.now) result ((D.outer dialer.old).events)
         ((D.outer dialer.new).events) }
     ensures counted { IfOk result (λ d. DialCounted wire d (D.outer dialer.old) (D.outer dialer.new)) }
+    ensures poller { (D.outer dialer.new).poller_faults ≡ (D.outer dialer.old).poller_faults }
     ensures keeps { Keeps (part.Visit wire) (D.outer dialer.old) (D.outer dialer.new) }
 {
     match transport {
@@ -297,6 +303,7 @@ fn dial_printed<D: Dialer>(
     ensures told { DialTold wire (printed output.now.success output.now.text) result ((D.outer dialer.old).events)
         ((D.outer dialer.new).events) }
     ensures counted { IfOk result (λ d. DialCounted wire d (D.outer dialer.old) (D.outer dialer.new)) }
+    ensures poller { (D.outer dialer.new).poller_faults ≡ (D.outer dialer.old).poller_faults }
     ensures keeps { Keeps (part.Visit wire) (D.outer dialer.old) (D.outer dialer.new) }
 {
     const FAILED: Ending = Ending::Address(AddressReason::IbusFailed);
@@ -322,6 +329,7 @@ fn dial_ibus<D: Dialer>(
     ensures told { DialTold wire (asks question.Ibus the_address) result ((D.outer dialer.old).events)
         ((D.outer dialer.new).events) }
     ensures counted { IfOk result (λ d. DialCounted wire d (D.outer dialer.old) (D.outer dialer.new)) }
+    ensures poller { (D.outer dialer.new).poller_faults ≡ (D.outer dialer.old).poller_faults }
     ensures keeps { Keeps (part.Visit wire) (D.outer dialer.old) (D.outer dialer.new) }
 {
     match dialer.run_ibus(alloc, wire) {
@@ -341,6 +349,7 @@ fn dial_address<D: Dialer>(
     ensures told { DialTold wire (to_address transport.now) result ((D.outer dialer.old).events)
         ((D.outer dialer.new).events) }
     ensures counted { IfOk result (λ d. DialCounted wire d (D.outer dialer.old) (D.outer dialer.new)) }
+    ensures poller { (D.outer dialer.new).poller_faults ≡ (D.outer dialer.old).poller_faults }
     ensures keeps { Keeps (part.Visit wire) (D.outer dialer.old) (D.outer dialer.new) }
 {
     match transport {
@@ -360,6 +369,7 @@ fn dial_text<D: Dialer>(
         ((D.outer dialer.new).events) }
     ensures expected { IfOk result (λ r. r.expected ≡ guid_in (address text.now)) }
     ensures counted { IfOk result (λ r. DialCounted wire r.dialled (D.outer dialer.old) (D.outer dialer.new)) }
+    ensures poller { (D.outer dialer.new).poller_faults ≡ (D.outer dialer.old).poller_faults }
     ensures keeps { Keeps (part.Visit wire) (D.outer dialer.old) (D.outer dialer.new) }
 {
     match Address::from_str(alloc, text) {
@@ -386,6 +396,7 @@ pub fn dial<D: Dialer>(
         ((D.outer dialer.new).events) }
     ensures expected { IfOk result (λ r. r.expected ≡ expects party.now) }
     ensures counted { IfOk result (λ r. DialCounted wire r.dialled (D.outer dialer.old) (D.outer dialer.new)) }
+    ensures poller { (D.outer dialer.new).poller_faults ≡ (D.outer dialer.old).poller_faults }
     ensures keeps { Keeps (part.Visit wire) (D.outer dialer.old) (D.outer dialer.new) }
 {
     match party {

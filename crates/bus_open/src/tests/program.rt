@@ -20,7 +20,7 @@ fn unused(alloc: Global) -> Result<Scene, Fail> {
 }
 
 /// Runs the program on this script: what it writes into so much room, and its status.
-fn outcome(
+pub(crate) fn outcome(
     alloc: Global,
     words: &[&str],
     script: &[u8],

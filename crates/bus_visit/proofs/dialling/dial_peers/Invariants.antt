@@ -1,4 +1,4 @@
-use Rattle.std.proofs.Common.{drop, filter, List}
+use Rattle.std.proofs.Common.{◌≡◌, true, drop, filter, List}
 use Rattle.std.specs.Option.{option_copied}
 use Rattle.react_core.specs.Outer.{Keeps}
 use Rattle.react_core.specs.Outer as part
@@ -6,6 +6,7 @@ use Rattle.bus_session.specs.declared.ended.AddressReason.TheVariants as reason
 use Rattle.bus_session.specs.declared.ended.Ending.TheVariants as ending
 use Rattle.bus_session.specs.Dialling.{fits, to_peers}
 use Rattle.bus_visit.specs.Dialled.{Answered, DialsTo}
+use Rattle.bus_visit.specs.Conversed.{is_awake}
 use Rattle.bus_visit.specs.Faults.{EndingCounted}
 use Rattle.bus_visit.proofs.dialling.dial_peers.Given as goal
 
@@ -17,5 +18,7 @@ invariant-loop-peer g l = record {
       (to_peers l.ending (option_copied l.file) (filter (fits l.family) (drop l.peer-index l.peers)))
       ((g.D.Tells.outer l.fn.dialer).events) ((g.D.Tells.outer l.dialer).events) dials;
   counted : EndingCounted l.wire l.ending (g.D.Tells.outer l.fn.dialer) (g.D.Tells.outer l.dialer);
+  awake : is_awake l.ending ≡ true;
+  poller : (g.D.Tells.outer l.dialer).poller_faults ≡ (g.D.Tells.outer l.fn.dialer).poller_faults;
   keeps : Keeps (part.Visit l.wire) (g.D.Tells.outer l.fn.dialer) (g.D.Tells.outer l.dialer);
 }

@@ -1,6 +1,39 @@
-use Rattle.std.proofs.Common.{ap}
-use Rattle.react_core.specs.Outer.{keeps-then}
-use Rattle.react_core.specs.Outer as part
-use Rattle.bus_visit.proofs.VisitFrames.{slot-after, unconnected-counted, failure-awake}
-use Rattle.bus_visit.proofs.FirstVisit.{if-ok, refused-by, first-undialled, first-dialled, dialled-keeps}
+use Rattle.bus_visit.proofs.TurnLemmas.{on-err}
+use Rattle.bus_visit.proofs.VisitFrames.{failure-awake}
+use Rattle.bus_visit.proofs.FirstVisit.{if-ok, refused-by, first-undialled, first-dialled, dials-keep, dialled-keeps}
 use Rattle.bus_visit.proofs.visiting.first_visit.Goals as goal
+
+pub returns-in_err-reached-clause-refused : goal.returns-in_err-reached-clause-refused
+returns-in_err-reached-clause-refused g c =
+    let told_ = c.in_err-reached.ensures.told in
+    on-err c.from_residual.result
+    (dials-keep c.args.wire told_.0 ((g.O.Tells.outer c.args.outside.now).events)
+    ((g.O.Tells.outer c.dial.new.dialer).events) c.args.reactor.now.core c.requires.rests told_.1)
+
+pub returns-in-Opened-clause-visited : goal.returns-in-Opened-clause-visited
+returns-in-Opened-clause-visited g c =
+    if-ok c.visit_opened.result
+    (λ slot registers.
+    first-dialled c.args.session.now c.args.wire c.in_ok-reached.reached c.in-Opened.opened
+    ((g.O.Tells.outer c.args.outside.now).events) ((g.O.Tells.outer c.dial.new.dialer).events)
+    ((g.O.Tells.outer c.visit_opened.new.outside).events) c.args.reactor.now.core c.visit_opened.new.reactor.core slot
+    c.in_ok-reached.ensures.told c.in-Opened.is registers)
+    c.visit_opened.ensures.visited
+
+pub returns-in-Opened-clause-refused : goal.returns-in-Opened-clause-refused
+returns-in-Opened-clause-refused g c =
+    let told_ = c.in_ok-reached.ensures.told in
+    refused-by c.visit_opened.result
+    (λ keeps. dialled-keeps c.args.wire told_.0 ((g.O.Tells.outer c.args.outside.now).events)
+    ((g.O.Tells.outer c.dial.new.dialer).events) ((g.O.Tells.outer c.visit_opened.new.outside).events)
+    c.args.reactor.now.core c.visit_opened.new.reactor.core told_.1.gained keeps)
+    c.visit_opened.ensures.refused
+
+pub returns-clause-visited : goal.returns-clause-visited
+returns-clause-visited g c =
+    first-undialled c.args.session.now c.args.wire c.in_ok-reached.reached c.in-Failed.ending
+    ((g.O.Tells.outer c.args.outside.now).events) ((g.O.Tells.outer c.dial.new.dialer).events)
+    c.args.reactor.now.core c.unconnected.result c.in_ok-reached.ensures.told c.in-Failed.is
+    (failure-awake c.args.wire c.in_ok-reached.reached c.in-Failed.ending (g.O.Tells.outer c.args.outside.now)
+    (g.O.Tells.outer c.dial.new.dialer) c.in-Failed.is c.in_ok-reached.ensures.counted)
+    c.unconnected.ensures.value
