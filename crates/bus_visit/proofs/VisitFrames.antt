@@ -1,5 +1,5 @@
 -- What the calls of a visit keep of the outside, and which counts they raise.
-use Rattle.std.proofs.Common.{◌≡◌, ◌≤◌, inr, ℕ, true, sym, subst}
+use Rattle.std.proofs.Common.{◌≡◌, ◌≤◌, inr, ℕ, true, Option, Some, None, Result, Ok, Err, sym, subst}
 use Rattle.react_core.specs.Outer.{Outer, Keeps, keeps-then, wire-in-visit, poller-in-visit}
 use Rattle.react_core.specs.Outer as part
 use Rattle.bus_visit.specs.declared.conversing.Conversed.{Conversed}
@@ -10,6 +10,7 @@ use Rattle.bus_session.specs.declared.ended.Ended.{Ended}
 use Rattle.bus_visit.specs.declared.dialling.Dialled.{Dialled}
 use Rattle.bus_visit.specs.declared.dialling.Dialled.TheVariants as dialleds
 use Rattle.bus_visit.specs.declared.dialling.Reached.{Reached}
+use Rattle.react_core.specs.declared.outside.OutOfMemory.{OutOfMemory}
 use Rattle.bus_visit.specs.declared.visiting.Slot.{Slot}
 use Rattle.bus_visit.specs.Conversed.{is_awake, ConversedCounted}
 use Rattle.bus_visit.specs.Faults.{EndingCounted, DialCounted, SlotCounted}
@@ -17,6 +18,7 @@ use Rattle.bus_visit.specs.laws.Faults.{rose-rises, same-rises, rises-same, rise
 
 pub conversed-rises : (answer : Result Conversed OutOfMemory) (a b : ℕ) → ConversedCounted answer a b → a ≤ b
 conversed-rises (Ok (conversed.Over (ending.Open guid cap_unix_fd))) a b counted = same-rises a b counted
+conversed-rises (Ok (conversed.Over (ending.Address reason))) a b counted = absurd counted
 conversed-rises (Ok (conversed.Over ending.Unsupported)) a b counted = absurd counted
 conversed-rises (Ok (conversed.Over ending.Connection)) a b counted = absurd counted
 conversed-rises (Ok (conversed.Over ending.Io)) a b counted = rose-rises a b counted
@@ -47,6 +49,7 @@ module _ {Origin : Type 0} where
   pub over-counted : (wire : ℕ) (e : Ending) (a b : Outer Origin) →
       ConversedCounted (Ok (conversed.Over e)) (a.wire_faults wire) (b.wire_faults wire) → EndingCounted wire e a b
   over-counted wire (ending.Open guid cap_unix_fd) a b counted = tt
+  over-counted wire (ending.Address reason) a b counted = absurd counted
   over-counted wire ending.Unsupported a b counted = absurd counted
   over-counted wire ending.Connection a b counted = absurd counted
   over-counted wire ending.Io a b counted = inr counted

@@ -107,6 +107,7 @@ IsInterrupted wire before after c c' = (calls : List Event) × Interrupted wire 
 -- a dialling or a deadline does.
 abbrev pub ConversedCounted : Result Conversed OutOfMemory → ℕ → ℕ → Type 0
 ConversedCounted (Ok (conversed.Over (ending.Open guid cap_unix_fd))) before now = now ≡ before
+ConversedCounted (Ok (conversed.Over (ending.Address reason))) before now = ⊥
 ConversedCounted (Ok (conversed.Over ending.Unsupported)) before now = ⊥
 ConversedCounted (Ok (conversed.Over ending.Connection)) before now = ⊥
 ConversedCounted (Ok (conversed.Over ending.Io)) before now = Rose before now

@@ -1,5 +1,5 @@
 -- Which counts of faults an ending, a dialling and a visit show, whether the outside tells its record or not.
-use Rattle.std.specs.Prelude.{◌≡◌, ◌⊎◌, ℕ, true}
+use Rattle.std.specs.Prelude.{◌≡◌, ◌⊎◌, ℕ, true, Option, Some, None}
 use Rattle.react_core.specs.Outer.{Outer}
 use Rattle.react_core.specs.Told.{Rose}
 use Rattle.bus_session.specs.declared.ended.Ending.{Ending}

@@ -25,6 +25,6 @@ returns-in-Err-Kind-clause-told g c =
     ((g.D.Tells.outer c.args.dialer.now).events) ((g.D.Tells.outer c.args.dialer.now).events)
     (printed-refused c.args.output.now.success c.args.output.now.text c.as_slice.result.now c.in-Some.text.now
     c.trim.result.now c.if-not-output.false c.as_slice.ensures.items c.in-Some.ensures.text.0 c.in-Some.ensures.text.1 c.trim.ensures.trim
-    c.in-Err-Kind.field-0-0 c.in-Err-Kind.ensures.value)
+    c.in-Err-Kind.field-0-0 (rw c.in-Err-Kind.field-0-is at c.in-Err-Kind.ensures.value))
     (told-none (Unit {0}) c.args.wire (dialled.Failed (ending.Address reason.IbusFailed))
     ((g.D.Tells.outer c.args.dialer.now).events))
