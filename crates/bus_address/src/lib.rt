@@ -29,6 +29,3 @@ pub use text::Text;
 pub use transport::Transport;
 pub use unix::{Unix, UnixSocket};
 pub use unixexec::Unixexec;
-
-#[cfg(test)]
-mod tests;

@@ -25,6 +25,3 @@ pub use owned_name::{
     OwnedErrorName, OwnedInterfaceName, OwnedMemberName, OwnedName, OwnedPropertyName,
     OwnedUniqueName, OwnedWellKnownName,
 };
-
-#[cfg(test)]
-mod tests;

@@ -28,6 +28,3 @@ pub use hexadecimal::Hexadecimal;
 pub use mechanism::{AuthMechanism, UnsupportedMechanism};
 pub use server::Server;
 pub use verdict::{Authenticated, Step, Verdict};
-
-#[cfg(test)]
-mod tests;

@@ -21,6 +21,3 @@ pub use format::Format;
 pub use items::Items;
 pub use signature::{Child, Fields, FieldsIter, Signature};
 pub use validating::validate;
-
-#[cfg(test)]
-mod tests;

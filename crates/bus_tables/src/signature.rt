@@ -1,4 +1,6 @@
-use super::*;
+//! The grammar of signatures, their measures and their laws.
+
+use bus_signature::{Child, Error, Fields, Format, OutOfMemory, Signature, laws, validate};
 use std::hash::{DefaultHasher, Hasher};
 use std::test::Fail;
 

@@ -1,6 +1,10 @@
-use super::outside::*;
-use super::reactor::{Begun, Dir, ReactError, Reactor};
+//! The reactor over an outside that answers as a test wants it.
+
 use futures::task::Poll;
+use react_core::outside::{
+    Clock, Fault, Notifier, OutOfMemory, Poller, Registrar, Report, Tells, Waited, Waiter, Wakes,
+};
+use react_core::reactor::{Begun, Dir, ReactError, Reactor};
 use std::alloc::Global;
 use std::test::Fail;
 

@@ -1,4 +1,10 @@
-use super::*;
+//! Addresses, escapes and GUIDs.
+
+use bus_address::{
+    Address, AddressError, AddressKind, Guid, Ibus, InvalidGuid, Octets, OutOfMemory, Tcp,
+    TcpTransportFamily, Transport, Unix, UnixSocket, Unixexec, decode_percents, encode_percents,
+    laws,
+};
 use std::alloc::Global;
 use std::fmt::Display;
 use std::str::FromStr;

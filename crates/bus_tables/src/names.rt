@@ -1,5 +1,10 @@
-use crate::kind::{Failure, Interface, Kind, Member, Property, Unique, WellKnown};
-use crate::*;
+//! The grammars of names, their refusals and how names compare.
+
+use bus_names::kind::{Failure, Interface, Kind, Member, Property, Unique, WellKnown};
+use bus_names::{
+    BusName, Error, MemberName, Name, OwnedBusName, OwnedMemberName, OwnedName, OwnedUniqueName,
+    OwnedWellKnownName, UniqueName, WellKnownName,
+};
 use std::alloc::{AllocError, Global};
 use std::cmp::Ordering;
 use std::convert::TryFrom;
