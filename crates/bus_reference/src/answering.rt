@@ -149,7 +149,7 @@ fn failed(alloc: Global, purpose: Purpose) -> Result<Dialling, AllocError>
         Purpose::TheWire | Purpose::ThePeers(..) => Ok(Dialling::Fails(Ending::Connection)),
         Purpose::APeer(left, file) => to_peers(alloc, Ending::Connection, file, left.as_slice()),
         Purpose::TheNonce(_) => Ok(Dialling::Fails(Ending::Io)),
-        Purpose::TheAddress => { Ok(Dialling::Fails(IBUS_FAILED)) }
+        Purpose::TheAddress => Ok(Dialling::Fails(IBUS_FAILED)),
     }
 }
 
