@@ -41,7 +41,9 @@ reads old new text s taken whole is = record {
 }
 
 -- The whole of a run whose script was read.
-pub plays : (old new : Option (List ℕ)) (text : List ℕ) (p : Played) (endeds : List Ended) (events : List Event) → Consumes old new text → (length text ≤ 16777216 → IsAtEnd new) → ((s : Script) × (script text ≡ Ok s) × IsOf s p) →
+pub plays : (old new : Option (List ℕ)) (text : List ℕ) (p : Played) (endeds : List Ended) (events : List Event) →
+    Consumes old new text → (length text ≤ 16777216 → IsAtEnd new) → ((s : Script) × (script text ≡ Ok s) × IsOf s p)
+    →
     ComesTo p.scene.script p.sessions.items p.rounds endeds events → Plays old new endeds events
 plays old new text p endeds events taken whole from comes = record {
   read = from.0;

@@ -44,7 +44,8 @@ comes answers sessions rounds old new endeds start told shown none are follows c
 }
 
 -- where the poller failed
-pub fails : (answers : Queues) (start told shown : List Event) → start ≡ [] → shown ≡ told → FollowsAnswers answers shown → Rose (counted (faults_of_poller start)) (counted (faults_of_poller told)) → PollerFails answers
+pub fails : (answers : Queues) (start told shown : List Event) → start ≡ [] → shown ≡ told → FollowsAnswers answers
+    shown → Rose (counted (faults_of_poller start)) (counted (faults_of_poller told)) → PollerFails answers
 fails answers start told shown none are follows rose =
     let rose' : Rose 0 (counted (faults_of_poller shown)) = rw are (subst (λ (r : List Event). Rose (counted (faults_of_poller r)) (counted (faults_of_poller told))) none rose) in
     let some : 0 < faults_of_poller shown = omega (arith, rose') in

@@ -1,5 +1,6 @@
 -- What a run of the program does.
-use Rattle.std.specs.Prelude.{◌≡◌, ℕ, ◌≤◌, ◌<◌, ◌+◌, ◌-◌, ◌^◌, ◌⊎◌, Bool, true, false, List, length, Option, Some, Ok, Err}
+use Rattle.std.specs.Prelude.{◌≡◌, ℕ, ◌≤◌, ◌<◌, ◌+◌, ◌-◌, ◌^◌, ◌⊎◌, Bool, true, false, List, length, Option, Some, Ok}
+use Rattle.std.specs.Prelude.{Err}
 use Rattle.std.specs.List.{list_all}
 use Rattle.std.specs.Io.KnownBytes.{Consumes, IsAtEnd, Keeps}
 use Rattle.react_core.specs.declared.outside.Event.{Event}
@@ -34,9 +35,11 @@ most_reports = 64
 abbrev pub FollowsAnswers : Queues → List Event → Type 0
 FollowsAnswers answers events = Follows (rooms.Each most_reports) answers events
 
--- What opening these sessions over a new scene of these answers comes to: the record is the scene's, from its first event on,
+-- What opening these sessions over a new scene of these answers comes to: the record is the scene's, from its first
+-- event on,
 -- it follows from the answers, no call of the poller failed, and endings and record are what `open_all` promises.
-pub record ComesTo (answers : Queues) (sessions : List Session) (rounds : ℕ) (endeds : List Ended) (events : List Event) : Type 0 where
+pub record ComesTo (answers : Queues) (sessions : List Session) (rounds : ℕ) (endeds : List Ended) (events : List
+    Event) : Type 0 where
   pub follows : FollowsAnswers answers events
   pub faultless : faults_of_poller events ≡ 0
   -- how the record is cut into visits and rounds
@@ -73,7 +76,8 @@ pub record Plays (old new : Option (List ℕ)) (endeds : List Ended) (events : L
 -- The results of a run, as a text, and whether all is well.
 pub data Results (words : List (List ℕ)) (old new : Option (List ℕ)) : Bool → List ℕ → Type 0 where
   -- of a script that is played: every session is open
-  played : (endeds : List Ended) (events : List Event) (well : Bool) (text : List ℕ) → asked words ≡ Ok Play → Plays old new endeds events →
+  played : (endeds : List Ended) (events : List Event) (well : Bool) (text : List ℕ) → asked words ≡ Ok Play → Plays
+      old new endeds events →
       well ≡ all_open endeds → text ≡ printed endeds events → Results words old new well text
   -- of a text that is checked: it is one of its kind; nothing is read
   checked : (kind : Kind) (well : Bool) (text : List ℕ) → asked words ≡ Ok (Check kind) → Keeps old new →

@@ -1,5 +1,6 @@
 -- What a source gives and a sink takes, and how each counts its faults.
-use Rattle.std.specs.Prelude.{◌≡◌, ℕ, ◌≤◌, ◌<◌, List, ◌++◌, ◌⊎◌, length, take, Option, is_some, Result, Ok, Err, MatchResult}
+use Rattle.std.specs.Prelude.{◌≡◌, ℕ, ◌≤◌, ◌<◌, List, ◌++◌, ◌⊎◌, length, take, Option, is_some, Result, Ok, Err}
+use Rattle.std.specs.Prelude.{MatchResult}
 use Rattle.std.specs.Io.KnownBytes.{Keeps, Appends, Consumes, IsAtEnd}
 use Rattle.react_core.specs.Told.{Rose}
 use Rattle.bus_open.specs.declared.stream.Read.{Read}
@@ -17,7 +18,8 @@ Gives old new into read.Failed = Keeps old new
 
 -- The bytes that a sink held and holds, the piece that it was offered, and the answer.
 abbrev pub Takes : {E : Type 0} → Option (List ℕ) → Option (List ℕ) → List ℕ → Result ℕ E → Type 0
-Takes old new piece answer = MatchResult answer (λ n. (n ≤ length piece) × (0 < length piece → 0 < n) × Appends old new (take n piece)) (λ _. Keeps old new)
+Takes old new piece answer = MatchResult answer (λ n. (n ≤ length piece) × (0 < length piece → 0 < n) × Appends old
+    new (take n piece)) (λ _. Keeps old new)
 
 -- A read failed exactly where the count of faults rose.
 abbrev pub CountsRead : ℕ → ℕ → Read → Type 0

@@ -12,7 +12,8 @@ ghost use Rattle.bus_session.specs.declared.ended.Ended.{Ended};
 ghost use Rattle.bus_scene.specs.Queues.{queues};
 ghost use Rattle.bus_session.specs.Sessions.{is_built};
 ghost use Rattle.bus_open.specs.Streams.{GainsFront, GainsOrFails, LosesFront};
-ghost use Rattle.bus_open.specs.Run.{ComesTo, Plays, Reads, PollerFails, RefusesScript, RunsOut, ScriptRunsOut, all_open, is_open, status_of};
+ghost use Rattle.bus_open.specs.Run.{ComesTo, Plays, Reads, PollerFails, RefusesScript, RunsOut, ScriptRunsOut};
+ghost use Rattle.bus_open.specs.Run.{all_open, is_open, status_of};
 
 use crate::refusal::refuse;
 use crate::status;

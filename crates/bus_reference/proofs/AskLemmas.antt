@@ -20,13 +20,16 @@ pub looked_from-zero : (talk : List (List ℕ) → Said) (b : List ℕ) (w k j :
 unfolding looked_from
 looked_from-zero talk b w k j e = rw e refl
 
-pub looked_from-some : {X : Type 0} (f : X → Ask) (o : Option X) (talk : List (List ℕ) → Said) (b : List ℕ) (w k j : ℕ) → option_map f o ≡ ask_now talk b w k j → is_some o ≡ true → 0 < k → j ≡ looked_from talk b w k j
+pub looked_from-some : {X : Type 0} (f : X → Ask) (o : Option X) (talk : List (List ℕ) → Said) (b : List ℕ) (w k j :
+    ℕ) → option_map f o ≡ ask_now talk b w k j → is_some o ≡ true → 0 < k → j ≡ looked_from talk b w k j
 unfolding looked_from
 looked_from-some f o talk b w zero j e s lt = absurd (omega arith)
 looked_from-some f None talk b w (suc k) j e s lt = absurd cc
 looked_from-some f (Some x) talk b w (suc k) j e s lt = rw (← e) refl
 
-pub looked_from-none : {X : Type 0} (f : X → Ask) (o : Option X) (talk : List (List ℕ) → Said) (b : List ℕ) (w k j : ℕ) → option_map f o ≡ ask_now talk b w k j → is_some o ≡ false → 0 < k → looked_from talk b w k j ≡ looked_from talk b w (k - 1) (j + 1)
+pub looked_from-none : {X : Type 0} (f : X → Ask) (o : Option X) (talk : List (List ℕ) → Said) (b : List ℕ) (w k j :
+    ℕ) → option_map f o ≡ ask_now talk b w k j → is_some o ≡ false → 0 < k → looked_from talk b w k j ≡ looked_from
+    talk b w (k - 1) (j + 1)
 unfolding looked_from
 looked_from-none f o talk b w zero j e s lt = absurd (omega arith)
 looked_from-none f (Some x) talk b w (suc k) j e s lt = absurd cc

@@ -42,7 +42,8 @@ first_line (c ∷ y) h = first_of_feed (eqb c 10) c y refl (first_line y) h
 none_onto : (c : ℕ) (w : List (List ℕ)) (r : List ℕ) → w ≡ [] → (onto_line c w r).whole ≡ []
 none_onto c w r e = rw e refl
 
-none_of_feed : (b : Bool) (c : ℕ) (bytes : List ℕ) → eqb c 10 ≡ b → (length bytes ≤ feed_at bytes → (lines bytes).whole ≡ []) → length (c ∷ bytes) ≤ feed_at (c ∷ bytes) → (lines (c ∷ bytes)).whole ≡ []
+none_of_feed : (b : Bool) (c : ℕ) (bytes : List ℕ) → eqb c 10 ≡ b → (length bytes ≤ feed_at bytes → (lines
+    bytes).whole ≡ []) → length (c ∷ bytes) ≤ feed_at (c ∷ bytes) → (lines (c ∷ bytes)).whole ≡ []
 none_of_feed true c bytes e others h = absurd (omega (arith, (rw e at h)))
 none_of_feed false c bytes e others h =
     let n : feed_at (c ∷ bytes) ≡ suc (feed_at bytes) = rw e (omega arith) in
@@ -68,7 +69,9 @@ first_more (suc n) f y h e lt =
     let s : f + 1 ≡ suc (feed_at y) = omega arith in
     rw (s, ← m) (ap (take (suc n)) (first_line y (omega arith)))
 
-pub first_cut : (n f : ℕ) (y z line : List ℕ) (cut items : List (List ℕ)) → 0 < n → f ≡ feed_at y → f < length y → line ≡ take (f + 1) y → z ≡ drop (f + 1) y → cut ≡ take (n - 1) (lines z).whole → items ≡ line ∷ cut → items ≡ take n (lines y).whole
+pub first_cut : (n f : ℕ) (y z line : List ℕ) (cut items : List (List ℕ)) → 0 < n → f ≡ feed_at y → f < length y →
+    line ≡ take (f + 1) y → z ≡ drop (f + 1) y → cut ≡ take (n - 1) (lines z).whole → items ≡ line ∷ cut → items ≡
+    take n (lines y).whole
 first_cut n f y z line cut items h e lt front back others all = rw (all, front, others, back) (sym (first_more n f y h e lt))
 
 -- without a line feed everything follows

@@ -25,7 +25,9 @@ fits : {E : Type 0} (bs : List ℕ) (r : Result ℕ E) → ParsesUnsigned 32 10 
 fits [] r h = parse_plain own 32 [] r h (λ e. absurd cc)
 fits (c ∷ cs) r h = by_sign (eqb c 43) c cs r refl h
 
-by_tests : {E : Type 0} (ds : List ℕ) (r : Result ℕ E) → Fits r ds → (a b c : Bool) → ltb 0 (length ds) ≡ a → all_ascii_digits ds ≡ b → ltb (number 0 ds) (2 ^ 32) ≡ c → result_ok r ≡ cond (a && b && c) (Some (number 0 ds)) None
+by_tests : {E : Type 0} (ds : List ℕ) (r : Result ℕ E) → Fits r ds → (a b c : Bool) → ltb 0 (length ds) ≡ a →
+    all_ascii_digits ds ≡ b → ltb (number 0 ds) (2 ^ 32) ≡ c → result_ok r ≡ cond (a && b && c) (Some (number 0 ds))
+    None
 by_tests ds (Ok x) h true true true e f g = ap (λ (n : ℕ). Some n) h.1
 by_tests ds (Ok x) h false b c e f g = absurd (let t = sym (lt-ltb 0 (length ds) h.0.1) ∙ e in cc)
 by_tests ds (Ok x) h true false c e f g = absurd (let t = sym h.0.0 ∙ f in cc)

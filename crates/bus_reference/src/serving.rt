@@ -5,7 +5,9 @@ ghost use Rattle.std.specs.Option.{option_map, option_and_then};
 ghost use Rattle.bus_opening.specs.declared.command.Command.TheVariants as cmd;
 ghost use Rattle.bus_opening.specs.Client.{text_of_line, command_in};
 ghost use Rattle.bus_opening.specs.Talk.{goes, turn_from, said_of};
-ghost use Rattle.bus_opening.specs.Server.{begin, auth, server_terms_of, rejected, accepted, misplaced, user_of, is_permitted, by_user, is_mechanism, with_data, in_auth, in_data, in_begin, step_server, line_of, server_step, server};
+ghost use Rattle.bus_opening.specs.Server.{begin, auth, server_terms_of, rejected, accepted, misplaced, user_of};
+ghost use Rattle.bus_opening.specs.Server.{is_permitted, by_user, is_mechanism, with_data, in_auth, in_data};
+ghost use Rattle.bus_opening.specs.Server.{in_begin, step_server, line_of, server_step, server};
 ghost use Rattle.bus_reference.specs.Views.{as_terms, as_stage, as_reply, as_said};
 
 use crate::reading::command_in;

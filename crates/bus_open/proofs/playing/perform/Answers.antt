@@ -12,7 +12,9 @@ returns-in-Ok-opened-clause-opened g c = λ zero.
       comes c.args.played.scene.script c.args.played.sessions.items c.args.played.rounds _ _ c.in-Ok-opened.endeds.items _ _ c.events-events.result.now
           c.requires.new c.events-events.ensures.told
           (follows-answers c.args.played.scene.script _ c.args.played.scene.rooms _ _ _ c.events-events.result.now c.open_all-opened.ensures.keeps.origin
-          c.events-events.ensures.told c.requires.unwaited (ap (λ (r : ReactorState). r.events) c.in-Ok.ensures) c.open_all-opened.ensures.keeps.rooms c.events-events.ensures.follows) c.in-Ok-opened.ensures.cause c.in-Ok-opened.ensures.opened,
+          c.events-events.ensures.told c.requires.unwaited (ap (λ (r : ReactorState). r.events) c.in-Ok.ensures)
+              c.open_all-opened.ensures.keeps.rooms c.events-events.ensures.follows) c.in-Ok-opened.ensures.cause
+              c.in-Ok-opened.ensures.opened,
       all.0,
       all.1,
     )
@@ -25,7 +27,9 @@ returns-in-Ok-opened-clause-other g c = λ one.
       comes c.args.played.scene.script c.args.played.sessions.items c.args.played.rounds _ _ c.in-Ok-opened.endeds.items _ _ c.events-events.result.now
           c.requires.new c.events-events.ensures.told
           (follows-answers c.args.played.scene.script _ c.args.played.scene.rooms _ _ _ c.events-events.result.now c.open_all-opened.ensures.keeps.origin
-          c.events-events.ensures.told c.requires.unwaited (ap (λ (r : ReactorState). r.events) c.in-Ok.ensures) c.open_all-opened.ensures.keeps.rooms c.events-events.ensures.follows) c.in-Ok-opened.ensures.cause c.in-Ok-opened.ensures.opened,
+          c.events-events.ensures.told c.requires.unwaited (ap (λ (r : ReactorState). r.events) c.in-Ok.ensures)
+              c.open_all-opened.ensures.keeps.rooms c.events-events.ensures.follows) c.in-Ok-opened.ensures.cause
+              c.in-Ok-opened.ensures.opened,
       other.0,
       other.1,
     )
@@ -38,7 +42,9 @@ returns-in-Ok-opened-clause-failed g c = λ four.
       comes c.args.played.scene.script c.args.played.sessions.items c.args.played.rounds _ _ c.in-Ok-opened.endeds.items _ _ c.events-events.result.now
           c.requires.new c.events-events.ensures.told
           (follows-answers c.args.played.scene.script _ c.args.played.scene.rooms _ _ _ c.events-events.result.now c.open_all-opened.ensures.keeps.origin
-          c.events-events.ensures.told c.requires.unwaited (ap (λ (r : ReactorState). r.events) c.in-Ok.ensures) c.open_all-opened.ensures.keeps.rooms c.events-events.ensures.follows) c.in-Ok-opened.ensures.cause c.in-Ok-opened.ensures.opened,
+          c.events-events.ensures.told c.requires.unwaited (ap (λ (r : ReactorState). r.events) c.in-Ok.ensures)
+              c.open_all-opened.ensures.keeps.rooms c.events-events.ensures.follows) c.in-Ok-opened.ensures.cause
+              c.in-Ok-opened.ensures.opened,
       failed.0,
       failed.1,
     )

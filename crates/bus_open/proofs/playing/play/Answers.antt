@@ -9,7 +9,9 @@ returns-in-Ok-from_script-clause-opened g c = λ zero.
     let came = c.perform.ensures.opened zero in (
       came.0,
       came.1,
-      plays (g.S.Source.left c.args.source.now) (g.S.Source.left c.read_all.new.source) c.in-Ok.text.items c.in-Ok-from_script.played came.0 came.1 c.in-Ok.ensures.bytes c.in-Ok.ensures.end (rw (← c.as_slice.ensures.value) c.in-Ok-from_script.ensures.script) came.2,
+      plays (g.S.Source.left c.args.source.now) (g.S.Source.left c.read_all.new.source) c.in-Ok.text.items
+          c.in-Ok-from_script.played came.0 came.1 c.in-Ok.ensures.bytes c.in-Ok.ensures.end (rw (←
+          c.as_slice.ensures.value) c.in-Ok-from_script.ensures.script) came.2,
       came.3,
       came.4,
     )
@@ -19,7 +21,9 @@ returns-in-Ok-from_script-clause-other g c = λ one.
     let came = c.perform.ensures.other one in (
       came.0,
       came.1,
-      plays (g.S.Source.left c.args.source.now) (g.S.Source.left c.read_all.new.source) c.in-Ok.text.items c.in-Ok-from_script.played came.0 came.1 c.in-Ok.ensures.bytes c.in-Ok.ensures.end (rw (← c.as_slice.ensures.value) c.in-Ok-from_script.ensures.script) came.2,
+      plays (g.S.Source.left c.args.source.now) (g.S.Source.left c.read_all.new.source) c.in-Ok.text.items
+          c.in-Ok-from_script.played came.0 came.1 c.in-Ok.ensures.bytes c.in-Ok.ensures.end (rw (←
+          c.as_slice.ensures.value) c.in-Ok-from_script.ensures.script) came.2,
       came.3,
       came.4,
     )
@@ -29,7 +33,9 @@ returns-in-Ok-from_script-clause-write_fault g c = λ four.
     let came = c.perform.ensures.failed four in (
       came.0,
       came.1,
-      plays (g.S.Source.left c.args.source.now) (g.S.Source.left c.read_all.new.source) c.in-Ok.text.items c.in-Ok-from_script.played came.0 came.1 c.in-Ok.ensures.bytes c.in-Ok.ensures.end (rw (← c.as_slice.ensures.value) c.in-Ok-from_script.ensures.script) came.2,
+      plays (g.S.Source.left c.args.source.now) (g.S.Source.left c.read_all.new.source) c.in-Ok.text.items
+          c.in-Ok-from_script.played came.0 came.1 c.in-Ok.ensures.bytes c.in-Ok.ensures.end (rw (←
+          c.as_slice.ensures.value) c.in-Ok-from_script.ensures.script) came.2,
       came.3,
       came.4,
     )
