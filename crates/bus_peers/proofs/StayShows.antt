@@ -30,7 +30,7 @@ use Rattle.bus_peers.proofs.Sides.{side-same, side-waits, stands-by}
 use Rattle.bus_peers.proofs.StayPlaces.{leaves-asleep}
 use Rattle.bus_peers.proofs.StaySteps.{Asks}
 use Rattle.bus_peers.proofs.VisitShows.{other-wire, Own, Renewed, renewed-shows, keyless-shows}
-use Rattle.bus_peers.proofs.WholeVisits.{registered_at, stands-idle}
+use Rattle.bus_peers.proofs.WholeVisits.{registered_at, stands-idle, and-true}
 
 -- ---- where the calls of a visit begin
 
@@ -218,7 +218,7 @@ begun-first past wire key dials sources shows none free =
           ∙ ap (λ h. holder_through k h rest)
           (if-else (key == k) (Some wire) (holder k past) (ne_eqb key k (λ e. other (sym e))));
       waiting = λ x rest. opening-fold (waits_by x) (λ s w q a. refl) wire key dials rest (waits x wire past);
-      reported = λ x rest. opening-fold (reported_by x) (λ s w q a. refl) wire key dials rest (reported x wire past);
+      reported = λ x rest. opening-fold (reported_by x) (λ s w q a. and-true s) wire key dials rest (reported x wire past);
       arming = λ x rest. opening-fold (armed_by x) (λ s w q a. refl) wire key dials rest (stays_armed x wire past);
       armed = λ x up. absurd (both_ways true (sym up ∙ un.waits x) refl);
       pausing = λ last rest. opening-fold last_stop_by (λ s w q a. refl) wire key dials rest last;

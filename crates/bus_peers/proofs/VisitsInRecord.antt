@@ -179,7 +179,7 @@ came-through late (Some d) o is = (d, refl, is)
 
 pub course-more : (s : Session) (a b : List Event) → course s (a ++ b) ≡ goes_through (course s a) b
 unfolding course
-course-more s a b = goes-append (first_course s) a b
+course-more s a b = goes-append (Some (first_course s)) a b
 
 none-reached : (deadline moment : Option ℕ) → deadline ≡ None → has_reached deadline moment ≡ false
 none-reached deadline moment none = rw none refl
@@ -423,7 +423,8 @@ begins-open (party.Server config) o = refl
 
 -- ---- a wire was opened
 
-module _ (s : Session) (wire key : ℕ) (past : Pieces) (dials : List Answered) (wired : dialling.Opened) (r0 r1 : Option (List Event)) (old mid new : Core) (talk : List (List ℕ) → Said) (client : Opening)
+module _ (s : Session) (wire key : ℕ) (past : Pieces) (dials : List Answered) (wired : dialling.Opened) (r0 r1 :
+    Option (List Event)) (old mid new : Core) (talk : List (List ℕ) → Said) (client : Opening)
     (built : is_built s ≡ true) (fresh : IsNew wire past) (shows : Shows past (map shown old.sources))
     (through : dials_through (dialling.begins s.party) dials ≡ Some (opens wired))
     (begun : conversation s.party wired ≡ talk) (stands : StandsIn talk [] client) (unwritten : client.written ≡ [])
@@ -513,7 +514,8 @@ module _ (s : Session) (wire key : ℕ) (past : Pieces) (dials : List Answered) 
         rests = x.rests;
         ticker = x.ticker ∙ ap (λ y. y.ticker) core;
         made = x.made ∙ ap (λ y. y.made) core;
-        begun = x.begun ∙ (ap (λ y. after_begun y.begun (length (arms_told o))) core ∙ ap (after_begun old.begun) (sym (opening-armings wire key dials v ∙ (armings-stay wire calls tail own ∙ no-arms o x.stays.over))));
+        begun = x.begun ∙ (ap (λ y. after_begun y.begun (length (arms_told o))) core ∙ ap (after_begun old.begun)
+            (sym (opening-armings wire key dials v ∙ (armings-stay wire calls tail own ∙ no-arms o x.stays.over))));
         waits = opening-waits wire key dials v ∙ x.waits;
         stands = λ pending. record {
           comes = record {
@@ -558,7 +560,8 @@ module _ (s : Session) (wire key : ℕ) (past : Pieces) (dials : List Answered) 
         rests = x.rests;
         ticker = x.ticker ∙ ap (λ y. y.ticker) core;
         made = x.made ∙ ap (λ y. y.made) core;
-        begun = x.begun ∙ (ap (λ y. after_begun y.begun (length (arms_told o))) core ∙ ap (after_begun old.begun) (sym (opening-armings wire key dials v ∙ (armings-stay wire calls tail own ∙ arming.counted))));
+        begun = x.begun ∙ (ap (λ y. after_begun y.begun (length (arms_told o))) core ∙ ap (after_begun old.begun)
+            (sym (opening-armings wire key dials v ∙ (armings-stay wire calls tail own ∙ arming.counted))));
         waits = opening-waits wire key dials v ∙ x.waits;
         stands = λ pending. record {
           open_ = x.stays.open_;

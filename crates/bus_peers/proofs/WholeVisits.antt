@@ -1,7 +1,8 @@
 -- A first visit, and a later one.
-use Rattle.std.proofs.Common.{◌≡◌, ℕ, true, false, ◌&&◌, if◌then◌else◌, List, [], ◌∷◌, ◌++◌, Option}
+use Rattle.std.proofs.Common.{◌≡◌, ℕ, Bool, true, false, ◌==◌, ◌&&◌, if◌then◌else◌, List, [], ◌∷◌, ◌++◌, Option}
 use Rattle.std.proofs.Common.{Some, None, refl, sym, ◌∙◌, ap}
 use Rattle.std.proofs.lemmas.Bool.{eq-eqb}
+use Rattle.std.proofs.Math.Path.{fun_ext}
 use Rattle.std.proofs.lemmas.List.{append-nil, append_assoc}
 use Rattle.std.proofs.lemmas.Option.{none-some}
 use Rattle.std.specs.Prelude.{is_none}
@@ -57,18 +58,34 @@ starts-first s wire past none own =
     ap (λ b. option_and_then (starts_at b (key_of wire past)) (course s (part wire (told past)))) none
     ∙ ap (λ events. option_and_then (starts_at false (key_of wire past)) (course s events)) own
 
+-- the event is no NotReady
+pub and-true : (b : Bool) → (b && true) ≡ b
+and-true true = refl
+and-true false = refl
+
+-- a Dial leaves the directions and the keys as they were
+here-dialled : (h : Here) (wire : ℕ) (question : Question) (answer : DialAnswer) →
+    here_by h (event.Dial wire question answer) ≡ h
+here-dialled h wire question answer =
+    ap (λ reported. record { is_waiting = h.is_waiting; was_reported = reported; was_notified = h.was_notified;
+    holder_of = h.holder_of }) (fun_ext (λ x. and-true (h.was_reported x)))
+
 -- a Dial that is asked
 dial-next : (s : Session) (wire : ℕ) (h : Here) (d to : Dialling) (question : Question) (answer : DialAnswer)
     (events : List Event) → dialled d question answer ≡ Some to →
     goes_on s wire h (Some (after_dial (dialling_course s d))) (event.Dial wire question answer ∷ events)
     ≡ goes_on s wire h (Some (after_dial (dialling_course s to))) events
 dial-next s wire h (asks wanted purpose) to question answer events is =
-    ap (λ own. goes_on s wire h (option_map after_dial (if own
+    ap (λ x. goes_on s wire x (option_map after_dial (if wire == wire
+    then option_map (λ p. record { party = s.party; progress = p })
+    (option_map (came_to s.party) (dialled (asks wanted purpose) question answer))
+    else None)) events) (here-dialled h wire question answer)
+    ∙ (ap (λ own. goes_on s wire h (option_map after_dial (if own
     then option_map (λ p. record { party = s.party; progress = p })
     (option_map (came_to s.party) (dialled (asks wanted purpose) question answer))
     else None)) events) (eq-eqb wire wire refl)
     ∙ ap (λ o. goes_on s wire h (option_map after_dial
-    (option_map (λ p. record { party = s.party; progress = p }) (option_map (came_to s.party) o))) events) is
+    (option_map (λ p. record { party = s.party; progress = p }) (option_map (came_to s.party) o))) events) is)
 dial-next s wire h (fails e) to question answer events is = absurd (none-some to is)
 dial-next s wire h (opens o) to question answer events is = absurd (none-some to is)
 
@@ -117,8 +134,8 @@ registered_at wire past key = here_by (here wire past) (event.Add wire key true)
 pub stands-idle : (wire : ℕ) (past : Pieces) (key : ℕ) → Unvisited wire past →
     StandsAt (registered_at wire past key) (idle wire key)
 stands-idle wire past key un = record {
-  read = (un.waits Read, ap (λ b. (b && true) && true) (un.reported Read));
-  write = (un.waits Write, ap (λ b. (b && true) && true) (un.reported Write));
+  read = (un.waits Read, ap (λ b. b && true) (un.reported Read));
+  write = (un.waits Write, ap (λ b. b && true) (un.reported Write));
 }
 
 -- the wire is open, and its key is free

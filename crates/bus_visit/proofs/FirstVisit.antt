@@ -108,7 +108,9 @@ module _ (old mid : Core) (wire key : ℕ) (free : source_of old.sources key ≡
       )
   inserted-tags r1 r2 new client slot.Refused new_wire (h, h', calls, o, x) = absurd x.stays
 
-  pub inserted-registers : (s : Session) (wired : dialling.Opened) (r0 r1 r2 : Option (List Event)) (new : Core) (client : Opening) (c : Slot) → (talk : List (List ℕ) → Said) × (conversation s.party wired ≡ talk) × StandsIn talk [] client → client.written ≡ [] →
+  pub inserted-registers : (s : Session) (wired : dialling.Opened) (r0 r1 r2 : Option (List Event)) (new : Core)
+      (client : Opening) (c : Slot) → (talk : List (List ℕ) → Said) × (conversation s.party wired ≡ talk) × StandsIn
+      talk [] client → client.written ≡ [] →
       r1 ≡ told r0 (event.Add wire key true ∷ []) → MakesRegisteredVisit wire key r1 r2 mid new client c → Registers s wire wired r0 r2 old new c
   inserted-registers s wired r0 r1 r2 new client c (talk, begun, stands) unwritten added stays =
       let S : Option (List Event) → Type 0 = λ r. MakesRegisteredVisit wire key r r2 mid new client c in (
