@@ -135,7 +135,7 @@ over_tcp (Some file) passes = asks (question.Nonce file) (the_nonce passes)
 -- the text that ibus printed, as an address
 abbrev pub given : Result AddressParts AddressKind → Dialling
 given (Ok a) = to_given a.transport
-given (Err kind) = fails (ending.Address reason.IbusFailed)
+given (Err _) = fails (ending.Address reason.IbusFailed)
 
 -- what ibus printed: an address with white space around it, if it ended in success
 abbrev pub printed : Bool → List ℕ → Dialling
@@ -200,7 +200,7 @@ dialled d asked answer = None
 -- the GUID that an address names
 abbrev pub guid_in : Result AddressParts AddressKind → Option (List ℕ)
 guid_in (Ok a) = a.guid
-guid_in (Err kind) = None
+guid_in (Err _) = None
 
 -- the GUID that a client expects: that of its own address, not of one that ibus gave
 abbrev pub expects : Party → Option (List ℕ)
