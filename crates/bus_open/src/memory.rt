@@ -22,8 +22,14 @@ pub struct MemSource {
 impl Model for MemSource {
     ghost Value = { SourceState };
 
-    ghost view = { λ s. record { rest = drop s.at s.bytes.items; most = s.most; faults = s.faults.items; calls =
-        s.calls; failed = s.failed } };
+    ghost view = { λ s. record {
+      rest = drop s.at s.bytes.items;
+      most = s.most;
+      faults = s.faults.items;
+      calls =
+          s.calls;
+      failed = s.failed;
+    } };
 
     ghost invariant = { λ s. (s.at ≤ vec_len s.bytes) × (0 < s.most) };
 }
@@ -101,8 +107,15 @@ pub struct MemSink {
 impl Model for MemSink {
     ghost Value = { SinkState };
 
-    ghost view = { λ s. record { held = s.bytes.items; room = s.room; most = s.most; faults = s.faults.items; calls =
-        s.calls; failed = s.failed } };
+    ghost view = { λ s. record {
+      held = s.bytes.items;
+      room = s.room;
+      most = s.most;
+      faults = s.faults.items;
+      calls =
+          s.calls;
+      failed = s.failed;
+    } };
 
     ghost invariant = { λ s. (vec_len s.bytes ≤ s.room) × (s.room ≤ vec_capacity s.bytes) × (0 < s.most) };
 }

@@ -67,8 +67,12 @@ and-true false = refl
 here-dialled : (h : Here) (wire : ℕ) (question : Question) (answer : DialAnswer) →
     here_by h (event.Dial wire question answer) ≡ h
 here-dialled h wire question answer =
-    ap (λ reported. record { is_waiting = h.is_waiting; was_reported = reported; was_notified = h.was_notified;
-    holder_of = h.holder_of }) (fun_ext (λ x. and-true (h.was_reported x)))
+    ap (λ reported. record {
+      is_waiting = h.is_waiting;
+      was_reported = reported;
+      was_notified = h.was_notified;
+      holder_of = h.holder_of;
+    }) (fun_ext (λ x. and-true (h.was_reported x)))
 
 -- a Dial that is asked
 dial-next : (s : Session) (wire : ℕ) (h : Here) (d to : Dialling) (question : Question) (answer : DialAnswer)

@@ -148,9 +148,10 @@ one-dial wire asked purpose answer to r0 r1 comes gained = record {
 pub one-told : (E : Type 0) (wire : ℕ) (asked : Question) (purpose : Purpose) (answer : DialAnswer) (d : Dialled)
     (r0 r1 : Option (List Event)) → answered purpose answer ≡ Some (as_dialling d) →
     r1 ≡ told r0 (event.Dial wire asked answer ∷ []) → DialTold {E = E} wire (asks asked purpose) (Ok d) r0 r1
-one-told E wire asked purpose answer d r0 r1 comes gained =
-    (record { question = asked; answer = answer } ∷ [],
-    one-dial wire asked purpose answer (as_dialling d) r0 r1 comes gained)
+one-told E wire asked purpose answer d r0 r1 comes gained = (
+  record { question = asked; answer = answer } ∷ [],
+  one-dial wire asked purpose answer (as_dialling d) r0 r1 comes gained,
+)
 
 -- this question is asked, and the rest follows
 pub then-told : {E : Type 0} (wire : ℕ) (asked : Question) (purpose : Purpose) (answer : DialAnswer) (mid : Dialling)
@@ -165,14 +166,16 @@ then-told wire asked purpose answer mid result r0 r1 r2 comes gained rest =
 pub opened-told : {E : Type 0} (wire : ℕ) (asked : Question) (answer : Result Opened Fault) (result : Result Dialled E)
     (r0 r1 : Option (List Event)) → OpenedAs answer result → r1 ≡ told r0 (dial_told wire asked answer) →
     DialTold wire (asks asked the_wire) result r0 r1
-opened-told wire asked (Ok opened) (Ok d) r0 r1 is gained =
-    (record { question = asked; answer = dial_answer.Opened opened.passes } ∷ [],
-    one-dial wire asked the_wire (dial_answer.Opened opened.passes) (as_dialling d) r0 r1
-    (ap (λ x. Some (as_dialling x)) (sym is)) gained)
-opened-told wire asked (Err fault.Failed) (Ok d) r0 r1 is gained =
-    (record { question = asked; answer = dial_answer.Failed } ∷ [],
-    one-dial wire asked the_wire dial_answer.Failed (as_dialling d) r0 r1 (ap (λ x. Some (as_dialling x)) (sym is))
-    gained)
+opened-told wire asked (Ok opened) (Ok d) r0 r1 is gained = (
+  record { question = asked; answer = dial_answer.Opened opened.passes } ∷ [],
+  one-dial wire asked the_wire (dial_answer.Opened opened.passes) (as_dialling d) r0 r1
+      (ap (λ x. Some (as_dialling x)) (sym is)) gained,
+)
+opened-told wire asked (Err fault.Failed) (Ok d) r0 r1 is gained = (
+  record { question = asked; answer = dial_answer.Failed } ∷ [],
+  one-dial wire asked the_wire dial_answer.Failed (as_dialling d) r0 r1 (ap (λ x. Some (as_dialling x)) (sym is))
+      gained,
+)
 opened-told wire asked (Err fault.OutOfMemory) (Err e) r0 r1 is gained = ([], gained)
 opened-told wire asked (Ok opened) (Err e) r0 r1 is gained = absurd is
 opened-told wire asked (Err fault.Failed) (Err e) r0 r1 is gained = absurd is
@@ -310,11 +313,12 @@ module _ (wire : ℕ) (family : Option TcpTransportFamily) (file : Option (List 
       let D : Dialling → Type 0 = λ x. DialsTo wire from x r0 r1 dials in
       let fit' : fits family (get_or peers i d) ≡ true = ap (fits family) (sym is) ∙ fit in
       let asked : from-peer none i ≡ asks (question.Tcp p) (a_peer left file) =
-      peer-asks none i d below fit' ∙ ap (λ x. asks (question.Tcp x) (a_peer left file)) (sym is) in
-      (dials ++ record { question = question.Tcp p; answer = answer } ∷ [],
-      to-then wire from (asks (question.Tcp p) (a_peer left file)) to r0 r1 r2 dials
-      (record { question = question.Tcp p; answer = answer } ∷ []) (subst D asked so-far)
-      (one-dial wire (question.Tcp p) (a_peer left file) answer to r1 r2 comes gained))
+      peer-asks none i d below fit' ∙ ap (λ x. asks (question.Tcp x) (a_peer left file)) (sym is) in (
+        dials ++ record { question = question.Tcp p; answer = answer } ∷ [],
+        to-then wire from (asks (question.Tcp p) (a_peer left file)) to r0 r1 r2 dials
+            (record { question = question.Tcp p; answer = answer } ∷ []) (subst D asked so-far)
+            (one-dial wire (question.Tcp p) (a_peer left file) answer to r1 r2 comes gained),
+      )
 
   pub peer-failed : (from : Dialling) (none : Ending) (i : ℕ) (d p : Peer) (r0 r1 r2 : Option (List Event)) →
       i < length peers → p ≡ get_or peers i d → fits family p ≡ true →

@@ -17,7 +17,7 @@ ghost use Rattle.bus_visit.specs.Dialled.{DialTold, ReachTold, OpenedAs};
 ghost use Rattle.bus_visit.specs.Faults.{DialCounted};
 
 use bus_address::{
-    Address, AddressError, Guid, Tcp, TcpTransportFamily, Transport, Unixexec, UnixSocket,
+    Address, AddressError, Guid, Tcp, TcpTransportFamily, Transport, UnixSocket, Unixexec,
 };
 use bus_session::{AddressReason, Ending, Party};
 use react_core::outside::{Args, Bytes, Dialer, Fault, Opened, OutOfMemory, Output, Peer};
@@ -321,11 +321,7 @@ fn dial_printed<D: Dialer>(
 }
 
 /// Has ibus print its address, and dials there.
-fn dial_ibus<D: Dialer>(
-    alloc: Global,
-    dialer: &mut D,
-    wire: u32,
-) -> Result<Dialled, OutOfMemory>
+fn dial_ibus<D: Dialer>(alloc: Global, dialer: &mut D, wire: u32) -> Result<Dialled, OutOfMemory>
     ensures told { DialTold wire (asks question.Ibus the_address) result ((D.outer dialer.old).events)
         ((D.outer dialer.new).events) }
     ensures counted { IfOk result (λ d. DialCounted wire d (D.outer dialer.old) (D.outer dialer.new)) }

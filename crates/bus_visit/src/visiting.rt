@@ -219,7 +219,9 @@ pub fn first_visit<O: Wire + Dialer + Registrar, W: Wakes>(
     match &reached.dialled {
         Dialled::Opened(opened) => {
             let expected = reached.expected;
-            visit_opened(alloc, reactor, outside, wakes, wire, session, expected, opened)
+            visit_opened(
+                alloc, reactor, outside, wakes, wire, session, expected, opened,
+            )
         }
         Dialled::Failed(ending) => Ok(Slot::Ended(unconnected(alloc, wire, *ending))),
     }

@@ -13,8 +13,8 @@ returns-in-Ok-opened-clause-opened g c = λ zero.
           c.requires.new c.events-events.ensures.told
           (follows-answers c.args.played.scene.script _ c.args.played.scene.rooms _ _ _ c.events-events.result.now c.open_all-opened.ensures.keeps.origin
           c.events-events.ensures.told c.requires.unwaited (ap (λ (r : ReactorState). r.events) c.in-Ok.ensures)
-              c.open_all-opened.ensures.keeps.rooms c.events-events.ensures.follows) c.in-Ok-opened.ensures.cause
-              c.in-Ok-opened.ensures.opened,
+          c.open_all-opened.ensures.keeps.rooms c.events-events.ensures.follows) c.in-Ok-opened.ensures.cause
+          c.in-Ok-opened.ensures.opened,
       all.0,
       all.1,
     )
@@ -28,8 +28,8 @@ returns-in-Ok-opened-clause-other g c = λ one.
           c.requires.new c.events-events.ensures.told
           (follows-answers c.args.played.scene.script _ c.args.played.scene.rooms _ _ _ c.events-events.result.now c.open_all-opened.ensures.keeps.origin
           c.events-events.ensures.told c.requires.unwaited (ap (λ (r : ReactorState). r.events) c.in-Ok.ensures)
-              c.open_all-opened.ensures.keeps.rooms c.events-events.ensures.follows) c.in-Ok-opened.ensures.cause
-              c.in-Ok-opened.ensures.opened,
+          c.open_all-opened.ensures.keeps.rooms c.events-events.ensures.follows) c.in-Ok-opened.ensures.cause
+          c.in-Ok-opened.ensures.opened,
       other.0,
       other.1,
     )
@@ -43,8 +43,8 @@ returns-in-Ok-opened-clause-failed g c = λ four.
           c.requires.new c.events-events.ensures.told
           (follows-answers c.args.played.scene.script _ c.args.played.scene.rooms _ _ _ c.events-events.result.now c.open_all-opened.ensures.keeps.origin
           c.events-events.ensures.told c.requires.unwaited (ap (λ (r : ReactorState). r.events) c.in-Ok.ensures)
-              c.open_all-opened.ensures.keeps.rooms c.events-events.ensures.follows) c.in-Ok-opened.ensures.cause
-              c.in-Ok-opened.ensures.opened,
+          c.open_all-opened.ensures.keeps.rooms c.events-events.ensures.follows) c.in-Ok-opened.ensures.cause
+          c.in-Ok-opened.ensures.opened,
       failed.0,
       failed.1,
     )

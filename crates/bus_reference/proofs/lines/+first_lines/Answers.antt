@@ -8,6 +8,8 @@ returns-then-feed-bytes t c = record { value = c.new-then-feed-bytes.ensures.ite
 pub returns : goal.returns
 returns t c =
     let line = c.from_vec.ensures.items ∙ c.in_ok-line.ensures.items ∙ c.split_at.ensures.front in
-    record { value = first_cut c.args.count c.feed_at-feed.result c.args.bytes.now _ _ _ _ (omega arith)
-        c.feed_at-feed.ensures.value (omega arith) line c.split_at.ensures.back c.in_ok-cut.ensures.value
-        c.in_ok-insert.ensures.items }
+    record {
+      value = first_cut c.args.count c.feed_at-feed.result c.args.bytes.now _ _ _ _ (omega arith)
+          c.feed_at-feed.ensures.value (omega arith) line c.split_at.ensures.back c.in_ok-cut.ensures.value
+          c.in_ok-insert.ensures.items;
+    }
