@@ -26,8 +26,7 @@ impl Model for MemSource {
       rest = drop s.at s.bytes.items;
       most = s.most;
       faults = s.faults.items;
-      calls =
-          s.calls;
+      calls = s.calls;
       failed = s.failed;
     } };
 
@@ -112,8 +111,7 @@ impl Model for MemSink {
       room = s.room;
       most = s.most;
       faults = s.faults.items;
-      calls =
-          s.calls;
+      calls = s.calls;
       failed = s.failed;
     } };
 
