@@ -140,7 +140,8 @@ pub(crate) fn play<S: Source, K: Sink>(alloc: Global, source: &mut S, sink: &mut
     // The script is refused; the line is written as far as the sink takes it.
     ensures refused { result ≡ 2 →
         (refused : Refused) × RefusesScript (S.left source.old) (S.left source.new) refused
-        × GainsOrFails (K.held sink.old) (K.held sink.new) (K.write_faults sink.old) (K.write_faults sink.new) (refusal refused.line refused.reason) }
+        × GainsOrFails (K.held sink.old) (K.held sink.new) (K.write_faults sink.old) (K.write_faults sink.new)
+        (refusal refused.line refused.reason) }
 
     // The source failed, and nothing was written.
     ensures read_fault { result ≡ 3 →
@@ -166,7 +167,8 @@ pub(crate) fn play<S: Source, K: Sink>(alloc: Global, source: &mut S, sink: &mut
         (s : Script) × Reads (S.left source.old) (S.left source.new) s
         × ScriptRunsOut s × Keeps (K.held sink.old) (K.held sink.new) }
     ensures complete { ¬ Rose (S.read_faults source.old) (S.read_faults source.new) →
-        ¬ Rose (K.write_faults sink.old) (K.write_faults sink.new) → (result ≡ 0) ⊎ (result ≡ 1) ⊎ (result ≡ 2) ⊎ (result ≡ 5) ⊎ (result ≡ 6) ⊎ (result ≡ 7) }
+        ¬ Rose (K.write_faults sink.old) (K.write_faults sink.new) →
+        (result ≡ 0) ⊎ (result ≡ 1) ⊎ (result ≡ 2) ⊎ (result ≡ 5) ⊎ (result ≡ 6) ⊎ (result ≡ 7) }
     ensures read_faults { result ≢ 3 → S.read_faults source.new ≡ S.read_faults source.old }
 {
     let text = match read_all(alloc, source, LONGEST_SCRIPT) {

@@ -22,9 +22,9 @@ use std::alloc::Global;
 
 /// Runs the program on these words, and answers its status.
 ///
-/// `play` reads a script from the source, opens its sessions over the scene that the script makes, and writes the endings
-/// and the record of the events into the sink. `check` reads a text as one of its kind and writes what it is. The real
-/// outside is for commands that are not built yet.
+/// `play` reads a script from the source, opens its sessions over the scene that the script makes, and writes the
+/// endings and the record of the events into the sink. `check` reads a text as one of its kind and writes what it is.
+/// The real outside is for commands that are not built yet.
 pub fn run<S: Source, K: Sink, O: Outside>(
     alloc: Global,
     words: &[String],
@@ -47,7 +47,8 @@ pub fn run<S: Source, K: Sink, O: Outside>(
     // The words or the script are refused; the line is written as far as the sink takes it.
     ensures refused { result ≡ 2 →
         (refused : Refused) × IsRefused (map string_bytes words.now) (S.left source.old) (S.left source.new) refused
-        × GainsOrFails (K.held sink.old) (K.held sink.new) (K.write_faults sink.old) (K.write_faults sink.new) (refusal refused.line refused.reason) }
+        × GainsOrFails (K.held sink.old) (K.held sink.new) (K.write_faults sink.old) (K.write_faults sink.new)
+        (refusal refused.line refused.reason) }
     ensures refused_words { (reason : Reason) →
         asked (map string_bytes words.now) ≡ Err reason → (result ≡ 2) ⊎ (result ≡ 5) }
 
@@ -82,7 +83,8 @@ pub fn run<S: Source, K: Sink, O: Outside>(
     // A run without a fault of its streams ends with the results, a refusal, want of memory, or as its script makes the
     // poller or the rounds' numbers fail.
     ensures complete { ¬ Rose (S.read_faults source.old) (S.read_faults source.new) →
-        ¬ Rose (K.write_faults sink.old) (K.write_faults sink.new) → (result ≡ 0) ⊎ (result ≡ 1) ⊎ (result ≡ 2) ⊎ (result ≡ 5) ⊎ (result ≡ 6) ⊎ (result ≡ 7) }
+        ¬ Rose (K.write_faults sink.old) (K.write_faults sink.new) →
+        (result ≡ 0) ⊎ (result ≡ 1) ⊎ (result ≡ 2) ⊎ (result ≡ 5) ⊎ (result ≡ 6) ⊎ (result ≡ 7) }
     ensures read_faults { result ≢ 3 → S.read_faults source.new ≡ S.read_faults source.old }
 
     // No command that is built touches the real outside.

@@ -5,6 +5,7 @@ mod RefusalProofs
 mod Unique
 mod Waiting
 mod Flat
+mod LeftPlaces
 mod Comes
 mod Closing
 mod Pauses

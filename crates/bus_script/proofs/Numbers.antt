@@ -1,5 +1,6 @@
 -- What is read as a number is what is written of it.
-use Rattle.std.proofs.Common.{◌≡◌, ◌≢◌, ℕ, ◌^◌, ◌<◌, ◌≤◌, zero, suc, Bool, true, false, List, length, get_or, Some, None, Result, Ok, Err, nat_lt, cond, ◌&&◌, refl, sym, ap, subst, arith, ◌⊎◌, inl, inr}
+use Rattle.std.proofs.Common.{◌≡◌, ◌≢◌, ℕ, ◌^◌, ◌<◌, ◌≤◌, zero, suc, Bool, true, false, List, length, get_or, Some}
+use Rattle.std.proofs.Common.{None, Result, Ok, Err, nat_lt, cond, ◌&&◌, refl, sym, ap, subst, arith, ◌⊎◌, inl, inr}
 use Rattle.std.specs.Result.{result_ok}
 use Rattle.std.specs.Str.{bytes_eq}
 use Rattle.std.specs.Str.Parse.{digits_value, ParsesUnsigned, AllDigits}

@@ -1,5 +1,7 @@
 -- A script that is read has its lines in order.
-use Rattle.std.proofs.Common.{◌≡◌, ℕ, ◌+◌, ◌≤◌, Bool, true, false, not, cond, List, [], ◌∷◌, ◌++◌, length, Option, Some, None, Result, Ok, Err, refl, sym, ◌∙◌, subst, ap, arith, append_assoc, ◌⊎◌, inl, inr, nat_lt, ◌||◌}
+use Rattle.std.proofs.Common.{◌≡◌, ℕ, ◌+◌, ◌≤◌, Bool, true, false, not, cond, List, [], ◌∷◌, ◌++◌, length, Option}
+use Rattle.std.proofs.Common.{Some, None, Result, Ok, Err, refl, sym, ◌∙◌, subst, ap, arith, append_assoc, ◌⊎◌, inl}
+use Rattle.std.proofs.Common.{inr, nat_lt, ◌||◌}
 use Rattle.std.specs.Option.{is_none, is_some}
 use Rattle.std.proofs.lemmas.List.{map-append, append-nil}
 use borrow.Author.Tests.{ltb-false}

@@ -1,5 +1,6 @@
 -- The forms of a line, by its words.
-use Rattle.std.specs.Prelude.{ℕ, ◌^◌, ◌-◌, Bool, true, false, List, [], ◌∷◌, length, take, Result, Ok, Err, nat_eq, ◌==◌, drop, if◌then◌else◌, codes}
+use Rattle.std.specs.Prelude.{ℕ, ◌^◌, ◌-◌, Bool, true, false, List, [], ◌∷◌, length, take, Result, Ok, Err, nat_eq}
+use Rattle.std.specs.Prelude.{◌==◌, drop, if◌then◌else◌, codes}
 use Rattle.std.specs.List.{join_with_byte, ends_with, starts_with}
 use Rattle.std.specs.Option.{ok_or}
 use Rattle.std.specs.Int.{w32, w128, from_be_bytes}

@@ -1,7 +1,8 @@
 -- The word of each reason.
 use Rattle.std.specs.Prelude.{ℕ, List, codes}
 use Rattle.bus_script.specs.declared.line.Reason.{Reason}
-use Rattle.bus_script.specs.declared.line.Reason.TheVariants.{Words, Length, Text, Form, NotBuilt, Order, Session, Clock}
+use Rattle.bus_script.specs.declared.line.Reason.TheVariants.{Words, Length, Text, Form, NotBuilt, Order, Session}
+use Rattle.bus_script.specs.declared.line.Reason.TheVariants.{Clock}
 
 abbrev pub reason_word : Reason → List ℕ
 reason_word Words = codes "words"

@@ -1,5 +1,6 @@
 -- The script that a text spells.
-use Rattle.std.specs.Prelude.{ℕ, ◌+◌, Bool, true, not, List, [], ◌∷◌, ◌++◌, length, fold, Option, Some, None, is_some, is_none, Result, Ok, Err, ◌||◌, nat_lt, nat_eq, if◌then◌else◌, codes, ◌==◌}
+use Rattle.std.specs.Prelude.{ℕ, ◌+◌, Bool, true, not, List, [], ◌∷◌, ◌++◌, length, fold, Option, Some, None, is_some}
+use Rattle.std.specs.Prelude.{is_none, Result, Ok, Err, ◌||◌, nat_lt, nat_eq, if◌then◌else◌, codes, ◌==◌}
 use Rattle.std.specs.List.{list_all, starts_with}
 use Rattle.std.specs.Str.{is_utf8}
 use Rattle.bus_session.specs.declared.session.Session.{Session}

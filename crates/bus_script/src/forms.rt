@@ -1,10 +1,16 @@
 //! The forms of a line.
 
-ghost use Rattle.std.specs.Prelude.{◌≡◌, ◌^◌, ◌<◌, ◌∷◌, ◌++◌, [], IfOk, OnOk, string_bytes, MatchOption, true, false, map, length, drop, nat_eq, Ok};
+ghost use Rattle.std.specs.Prelude.{◌≡◌, ◌^◌, ◌<◌, ◌∷◌, ◌++◌, [], IfOk, OnOk, string_bytes, MatchOption, true, false};
+ghost use Rattle.std.specs.Prelude.{map, length, drop, nat_eq, Ok};
 ghost use Rattle.std.specs.List.{join_with_byte, starts_with, ends_with};
 ghost use Rattle.bus_script.specs.Words.{number, flag, bytes, optional};
 ghost use Rattle.bus_script.specs.Reading.{Gives};
-ghost use Rattle.bus_script.specs.Forms.{mechanism_word, guid_word, ip_v4, ip_v6, peer, peer_with, peer_words, found_peers, rounds_line, start_line, client_line, server_line, dial_word, dial_with, dial_output, dial_words, dial_answer, recv_word, recv_with, recv_answer, send_word, send_with, send_answer, without, source, ready, readies, wait_word, wait_with, wait_answer, outcome_word, outcome, dial_line, recv_line, send_line, now_line, poller_line, line_with, line_of};
+ghost use Rattle.bus_script.specs.Forms.{mechanism_word, guid_word, ip_v4, ip_v6, peer, peer_with, peer_words};
+ghost use Rattle.bus_script.specs.Forms.{found_peers, rounds_line, start_line, client_line, server_line, dial_word};
+ghost use Rattle.bus_script.specs.Forms.{dial_with, dial_output, dial_words, dial_answer, recv_word, recv_with};
+ghost use Rattle.bus_script.specs.Forms.{recv_answer, send_word, send_with, send_answer, without, source, ready};
+ghost use Rattle.bus_script.specs.Forms.{readies, wait_word, wait_with, wait_answer, outcome_word, outcome, dial_line};
+ghost use Rattle.bus_script.specs.Forms.{recv_line, send_line, now_line, poller_line, line_with, line_of};
 ghost use Rattle.bus_script.specs.Forms.{peer_parts};
 
 use crate::line::{Answer, Line, LineError, Readies, Ready, ReadySource, Reason, ScriptWait};

@@ -2,7 +2,10 @@
 
 ghost use Rattle.std.specs.Prelude.{◌≡◌, ℕ, List, ◌++◌, ◌∷◌, [], IfOk, OnOk, string_bytes, Some, codes};
 ghost use Rattle.std.specs.List.{flat_map};
-ghost use Rattle.bus_script.specs.Printed.{bytes_word, flag_word, ok_word, directions, peer_word, question_words, dial_words, recv_words, send_words, report_word, wait_words, words_text, event_words, address_word, ending_word, ended_words, session_lines, event_lines, printed, refusal};
+ghost use Rattle.bus_script.specs.Printed.{bytes_word, flag_word, ok_word, directions, peer_word, question_words};
+ghost use Rattle.bus_script.specs.Printed.{dial_words, recv_words, send_words, report_word, wait_words, words_text};
+ghost use Rattle.bus_script.specs.Printed.{event_words, address_word, ending_word, ended_words, session_lines};
+ghost use Rattle.bus_script.specs.Printed.{event_lines, printed, refusal};
 
 use crate::line::Reason;
 use bus_opening::Hexadecimal;

@@ -6,7 +6,8 @@ ghost use Rattle.bus_script.specs.Forms.{is_built_line, is_built_answer};
 ghost use Rattle.bus_script.specs.Reading.{Steps, StepsAt, GivesAt, CutsLine};
 ghost use Rattle.bus_script.specs.Shape.{Say, lines_of};
 ghost use Rattle.bus_script.specs.Laws.{HasBuiltSessions, HasBuiltAnswers, NamesItsSessions, IsForward};
-ghost use Rattle.bus_script.specs.Script.{Script, start_of, latest, later, add, is_there, names_sessions, has_more, empty, read_line, at_line, read_lines, whole, script, lines_in, is_skipped};
+ghost use Rattle.bus_script.specs.Script.{Script, start_of, latest, later, add, is_there, names_sessions, has_more};
+ghost use Rattle.bus_script.specs.Script.{empty, read_line, at_line, read_lines, whole, script, lines_in, is_skipped};
 
 use crate::forms::line_of;
 use crate::line::{Answer, Line, LineError, Ready, ReadySource, Reason, ScriptWait, Start};

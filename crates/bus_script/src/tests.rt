@@ -263,7 +263,8 @@ fn lines_that_are_not_built_have_their_order_session_and_clock_too(
 #[test]
 fn a_script_gives_its_parts(rt: HostRuntime) -> Result<(), Fail> {
     let text =
-        b"rounds 5\nclient EXTERNAL 1000 - n - unix:path=/run/a\nclient EXTERNAL 7 - n - unix:path=/run/b\ndial 0 open n\ndial 1 fault\nrecv 0 bytes 4F4b\n";
+        b"rounds 5\nclient EXTERNAL 1000 - n - unix:path=/run/a\nclient EXTERNAL 7 - n - unix:path=/run/b\n\
+          dial 0 open n\ndial 1 fault\nrecv 0 bytes 4F4b\n";
     let Ok(script) = read(rt.alloc(), text, ScriptForm::Play) else {
         return Err(Fail::from("refused"));
     };

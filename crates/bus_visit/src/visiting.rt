@@ -169,8 +169,8 @@ fn visit_opened<O: Wire + Registrar, W: Wakes>(
     requires rests { IsBetweenCalls reactor.old.core }
     requires new { has_wire wire (tags reactor.old.core.sources) ≡ false }
     ensures visited { IfOk result
-        (λ slot. Registers session.now wire (as_opened opened.now) ((O.outer outside.old).events) ((O.outer outside.new).events)
-        reactor.old.core reactor.new.core slot) }
+        (λ slot. Registers session.now wire (as_opened opened.now) ((O.outer outside.old).events)
+        ((O.outer outside.new).events) reactor.old.core reactor.new.core slot) }
     ensures tags { IfOk result (FirstTags wire (tags reactor.old.core.sources) (tags reactor.new.core.sources)) }
     ensures refused { OnErr result
         (KeepsCall (tags reactor.old.core.sources) ((O.outer outside.old).events) ((O.outer outside.new).events)

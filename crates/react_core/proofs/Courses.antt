@@ -11,7 +11,9 @@ use Rattle.react_core.specs.Causes.{ReactCounted}
 use Rattle.react_core.specs.Places.{Source}
 use Rattle.react_core.specs.Core.{Core, ReactorState}
 use Rattle.react_core.specs.Reports.{armings_by_all, Try, Tried, tries_told}
-use Rattle.react_core.specs.Round.{Course, Unread, Read, Pause, Unwaited, Waited, Reread, Unreread, Paused, PauseClock, IsPause, is_quiet, wait_refusal, Ran, UnlessExhausted, RoundCounted, pause_told, pause_answer, pause_reports, reports_of, then_answer, answer_of}
+use Rattle.react_core.specs.Round.{Course, Unread, Read, Pause, Unwaited, Waited, Reread, Unreread, Paused, PauseClock}
+use Rattle.react_core.specs.Round.{IsPause, is_quiet, wait_refusal, Ran, UnlessExhausted, RoundCounted, pause_told}
+use Rattle.react_core.specs.Round.{pause_answer, pause_reports, reports_of, then_answer, answer_of}
 use Rattle.react_core.specs.Step.{Step, Begin, Finish, Done, WokeAll, finish_wakes, finished_round}
 use Rattle.react_core.specs.Told.{told, told-told}
 use Rattle.react_core.proofs.Tries.{Tried-nothing}

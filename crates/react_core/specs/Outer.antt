@@ -1,5 +1,6 @@
 -- What contracts see of an outside, and what a call of one of its parts keeps.
-use Rattle.std.specs.Prelude.{◌≡◌, ◌<◌, ◌≤◌, ◌^◌, ◌==◌, ◌⊎◌, if◌then◌else◌, ℕ, Bool, true, false, List, Option, Some, None}
+use Rattle.std.specs.Prelude.{◌≡◌, ◌<◌, ◌≤◌, ◌^◌, ◌==◌, ◌⊎◌, if◌then◌else◌, ℕ, Bool, true, false, List, Option, Some}
+use Rattle.std.specs.Prelude.{None}
 use Rattle.std.specs.Option.{option_map}
 use Rattle.std.proofs.Common.{refl, ◌∙◌, subst, sym, ap, inl, inr, arith}
 use Rattle.std.proofs.lemmas.Grind.{common_steps}

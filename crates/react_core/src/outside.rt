@@ -9,7 +9,8 @@ ghost use Rattle.react_core.specs.declared.outside.Event.{Event};
 ghost use Rattle.react_core.specs.declared.outside.Question.TheVariants as question;
 ghost use Rattle.react_core.specs.Outer.{Outer, Keeps, CountsFit, with_room, lent};
 ghost use Rattle.react_core.specs.Outer as part;
-ghost use Rattle.react_core.specs.Told.{told, now_told, add_told, modify_told, delete_told, notify_told, wait_told, recv_told, send_told, close_told};
+ghost use Rattle.react_core.specs.Told.{told, now_told, add_told, modify_told, delete_told, notify_told, wait_told};
+ghost use Rattle.react_core.specs.Told.{recv_told, send_told, close_told};
 ghost use Rattle.react_core.specs.Told.{dial_told, lookup_told, nonce_told, output_told};
 ghost use Rattle.react_core.specs.Told.{Counted, OnLack, IsReceived, IsSent, IsWaited};
 

@@ -1,5 +1,6 @@
 //! The reactor: sources under keys, rounds and readiness.
-ghost use Rattle.std.specs.Prelude.{◌≡◌, ◌≤◌, ◌<◌, ◌^◌, ◌↔◌, ◌==◌, ℕ, if◌then◌else◌, None, Some, [], IsTrue, is_some, false, IfOk, OnOk, OnErr};
+ghost use Rattle.std.specs.Prelude.{◌≡◌, ◌≤◌, ◌<◌, ◌^◌, ◌↔◌, ◌==◌, ℕ, if◌then◌else◌, None, Some, [], IsTrue, is_some};
+ghost use Rattle.std.specs.Prelude.{false, IfOk, OnOk, OnErr};
 ghost use Rattle.react_core.specs.Causes.{ReactCounted, OnReactLack, InsertTold, RemoveTold};
 ghost use Rattle.react_core.specs.Core.{Core, Fits, inserted, removed};
 ghost use Rattle.react_core.specs.Sources.{source_of, new_source, RisesFrom};
@@ -102,7 +103,8 @@ pub struct Reactor {
 }
 
 impl Model for Reactor {
-    ghost use Rattle.std.specs.Prelude.{◌≡◌, true, if◌then◌else◌, Some, None, ◌+◌, ◌*◌, ◌≤◌, vec_len, vec_capacity, length};
+    ghost use Rattle.std.specs.Prelude.{◌≡◌, true, if◌then◌else◌, Some, None, ◌+◌, ◌*◌, ◌≤◌, vec_len, vec_capacity};
+    ghost use Rattle.std.specs.Prelude.{length};
     ghost use Rattle.slab.specs.Slab.{entries};
     ghost use Rattle.react_core.specs.Core.{Core, ReactorState};
     ghost use Rattle.react_core.specs.Sources.{AllLone};
@@ -361,7 +363,8 @@ impl Reactor {
     ghost use Rattle.react_core.specs.Core.{IsRoundOpen};
     ghost use Rattle.react_core.specs.Reports.{armings_by_all, armed_told, Try, Tried};
     ghost use Rattle.react_core.specs.Round.{NumberedBy};
-    ghost use Rattle.react_core.specs.Step.{Step, Begin, Finish, Done, WokeAll, begun_round, finished_round, finish_wakes};
+    ghost use Rattle.react_core.specs.Step.{Step, Begin, Finish, Done, WokeAll, begun_round, finished_round};
+    ghost use Rattle.react_core.specs.Step.{finish_wakes};
 
     /// Begins a round: its number, and how long it may wait.
     ///

@@ -3,7 +3,9 @@ ghost use Rattle.std.specs.Prelude.{◌≡◌, ◌+◌, ◌*◌, ◌++◌, ◌�
 ghost use Rattle.std.specs.Result.{result_unwrap_or};
 ghost use Rattle.slab.specs.Slab.{entries};
 ghost use Rattle.react_core.specs.Causes.{ReactCounted, OnReactLack};
-ghost use Rattle.react_core.specs.Reports.{after_report, after_reports, taken_by, taken_by_all, armings_by, armings_by_all, Try, Tried, tries_of, tries_told, AnswersArming, worse, try_answer};
+ghost use Rattle.react_core.specs.Reports.{after_report, after_reports, taken_by, taken_by_all, armings_by};
+ghost use Rattle.react_core.specs.Reports.{armings_by_all, Try, Tried, tries_of, tries_told, AnswersArming, worse};
+ghost use Rattle.react_core.specs.Reports.{try_answer};
 ghost use Rattle.react_core.specs.Round.{Pause, Paused, not_zero, answer_of, then_answer};
 ghost use Rattle.react_core.specs.Sources.{AllLone};
 ghost use Rattle.react_core.specs.Step.{WokeAll};

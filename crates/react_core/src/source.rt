@@ -1,5 +1,6 @@
 //! Sources, what waits at them, and the table that holds them by their keys.
-ghost use Rattle.std.specs.Prelude.{◌≡◌, ◌+◌, ◌++◌, ◌*◌, ◌≤◌, true, None, Some, [], IsSome, OnOk, length, vec_len, vec_capacity};
+ghost use Rattle.std.specs.Prelude.{◌≡◌, ◌+◌, ◌++◌, ◌*◌, ◌≤◌, true, None, Some, [], IsSome, OnOk, length, vec_len};
+ghost use Rattle.std.specs.Prelude.{vec_capacity};
 ghost use Rattle.slab.specs.Slab.{entries, HasRoomFor};
 ghost use Rattle.react_core.specs.Sources.{source_of, with_source, with_new, without};
 

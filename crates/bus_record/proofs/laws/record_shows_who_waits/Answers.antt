@@ -1,4 +1,5 @@
-use Rattle.bus_record.proofs.Flat.{waits_in_record, waits_at_places}
+use Rattle.bus_record.proofs.Flat.{waits_in_record}
+use Rattle.bus_record.proofs.LeftPlaces.{waits_at_places}
 use Rattle.bus_record.proofs.laws.record_shows_who_waits.Goals as goal
 
 pub returns-clause-test : goal.returns-clause-test
