@@ -1,5 +1,5 @@
 -- A round over an outside, from its parts.
-use Rattle.std.proofs.Common.{◌≡◌, ◌≤◌, ℕ, true, List, [], ◌∷◌, Option, Result, Ok, Err, length, subst, refl, sym, ap, ◌∙◌, arith}
+use Rattle.std.proofs.Common.{◌≡◌, ◌≤◌, ℕ, Bool, true, List, [], ◌∷◌, Option, Result, Ok, Err, length, subst, refl, sym, ap, ◌∙◌, arith}
 use Rattle.react_core.specs.declared.outside.Event.{Event}
 use Rattle.react_core.specs.declared.outside.Event.TheVariants as event
 use Rattle.react_core.specs.declared.outside.Report.{Report}
@@ -24,10 +24,10 @@ UnlessExhausted-any (Err Poller) P p = p
 UnlessExhausted-any (Err OutOfMemory) P p = p
 UnlessExhausted-any (Err (Exhausted c v)) P p = tt
 
-module _ {W : Type 0} (woke : W → ℕ → W → Type 0) (timeout : Option ℕ) where
+module _ {W : Type 0} (woke : W → ℕ → W → Type 0) (timeout : Option ℕ) (ample : Bool) where
   -- the clock could not be read
   pub ran-unread : (r0 r1 : Option (List Event)) (m0 m1 : ℕ) (state : ReactorState) (wakes : W) (answer : Result (Unit {0}) ReactError) →
-      r1 ≡ told r0 [] → m1 ≡ m0 → answer ≡ Err OutOfMemory → (course : Course) × (tries : List Try) × Ran woke timeout r0 r1 m0 m1 state state wakes wakes answer course tries
+      r1 ≡ told r0 [] → m1 ≡ m0 → answer ≡ Err OutOfMemory → (course : Course) × (tries : List Try) × Ran woke timeout ample r0 r1 m0 m1 state state wakes wakes answer course tries
   ran-unread r0 r1 m0 m1 state wakes answer is at was = (
     Unread,
     [],
@@ -37,6 +37,7 @@ module _ {W : Type 0} (woke : W → ℕ → W → Type 0) (timeout : Option ℕ)
       each = refl;
       answers = was;
       gained = is;
+      lack = tt;
       clock = at;
       tasks = [];
       steps = record { wakes = refl; core = refl };
@@ -48,10 +49,10 @@ module _ {W : Type 0} (woke : W → ℕ → W → Type 0) (timeout : Option ℕ)
   pub ran-read : (r0 r1 r2 r3 : Option (List Event)) (m0 m1 m2 m3 t : ℕ) (old new : ReactorState) (begun : Core) (wakes wakes' : W) (got shown : List Report)
       (waited : Result ℕ ReactError) (finished answer : Result (Unit {0}) ReactError) → r1 ≡ told r0 (event.Now t ∷ []) → m0 ≤ t → m1 ≡ t →
       Step old.core Begin Done [] begun → ((p : Pause) × Paused timeout r1 r2 m1 m2 got waited p) → shown ≡ got → length shown ≤ old.events → m3 ≡ m2 →
-      ((tries : List Try) × Tried (armings_by_all begun.ticker begun.sources shown) finished r2 r3 tries) →
+      ((tries : List Try) × Tried (armings_by_all begun.ticker begun.sources shown) finished ample r2 r3 tries) →
       Step begun (Finish shown) Done (finish_wakes begun shown) new.core → WokeAll woke wakes (finish_wakes begun shown) wakes' →
       answer ≡ then_answer (answer_of waited) finished →
-      (course : Course) × (tries : List Try) × Ran woke timeout r0 r3 m0 m3 old new wakes wakes' answer course tries
+      (course : Course) × (tries : List Try) × Ran woke timeout ample r0 r3 m0 m3 old new wakes wakes' answer course tries
   ran-read r0 r1 r2 r3 m0 m1 m2 m3 t old new begun wakes wakes' got shown waited finished answer first le at begins pause same within later tried finishes woken is =
       let p = pause.0 in
       let tries = tried.0 in
@@ -69,6 +70,7 @@ module _ {W : Type 0} (woke : W → ℕ → W → Type 0) (timeout : Option ℕ)
           gained = tried.1.gained ∙ ap (λ r. told r (tries_told tries)) (pause.1.gained ∙ ap (λ r. told r (pause_told timeout p)) first)
               ∙ ap (λ r. told r (tries_told tries)) (told-told r0 (event.Now t ∷ []) (pause_told timeout p))
               ∙ told-told r0 (event.Now t ∷ pause_told timeout p) (tries_told tries);
+          lack = tried.1.lack;
           clock = (le, subst ClockTo (sym later) (subst ClockFrom at pause.1.clock));
           tasks = finish_wakes begun shown;
           steps = record {
@@ -87,12 +89,12 @@ module _ {W : Type 0} (woke : W → ℕ → W → Type 0) (timeout : Option ℕ)
 
 -- nothing is refused after a wait that was
 pub refused_alone : (timeout : Option ℕ) (r0 r1 r2 r3 : Option (List Event)) (m0 m1 ticker : ℕ)
-    (old : List (ℕ × Source)) (got shown : List Report) (waited : Result ℕ ReactError) (taken : Result (Unit {0}) ReactError) (e : ReactError) →
-    waited ≡ Err e → ((p : Pause) × Paused timeout r0 r1 m0 m1 shown waited p) → got ≡ shown → ((tries : List Try) × Tried (armings_by_all ticker old got) taken r2 r3 tries) → taken ≡ Ok tt
-refused_alone timeout r0 r1 r2 r3 m0 m1 ticker old got shown waited taken e is pause same tried =
+    (old : List (ℕ × Source)) (got shown : List Report) (waited : Result ℕ ReactError) (taken : Result (Unit {0}) ReactError) (e : ReactError) (ample : Bool) →
+    waited ≡ Err e → ((p : Pause) × Paused timeout r0 r1 m0 m1 shown waited p) → got ≡ shown → ((tries : List Try) × Tried (armings_by_all ticker old got) taken ample r2 r3 tries) → taken ≡ Ok tt
+refused_alone timeout r0 r1 r2 r3 m0 m1 ticker old got shown waited taken e ample is pause same tried =
     let none : got ≡ [] = same ∙ pause.1.reported ∙ silent pause.0 e (ap answer_of (sym is) ∙ pause.1.answers) pause.1.form in
-    let Nothing : List Report → Type 0 = λ rs. Tried (armings_by_all ticker old rs) taken r2 r3 tried.0 in
-    Tried-nothing taken r2 r3 tried.0 (subst Nothing none tried.1)
+    let Nothing : List Report → Type 0 = λ rs. Tried (armings_by_all ticker old rs) taken ample r2 r3 tried.0 in
+    Tried-nothing taken ample r2 r3 tried.0 (subst Nothing none tried.1)
   where
     quiet : (a : WaitAnswer) → true ≡ is_quiet timeout a → reports_of a ≡ []
     quiet (wait_answer.Reported []) q = refl

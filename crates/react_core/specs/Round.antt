@@ -10,7 +10,7 @@ use Rattle.react_core.specs.declared.reactor.Counter.TheVariants as counter
 use Rattle.react_core.specs.declared.reactor.ReactError.{ReactError}
 use Rattle.react_core.specs.declared.reactor.ReactError.TheVariants.{Poller, OutOfMemory, Exhausted}
 use Rattle.react_core.specs.Core.{Core, ReactorState}
-use Rattle.react_core.specs.Reports.{armings_by_all, Try, tries_told, worst}
+use Rattle.react_core.specs.Reports.{armings_by_all, Try, tries_told, worst, LackSo}
 use Rattle.react_core.specs.Step.{RoundSteps, WokeAll}
 use Rattle.react_core.specs.Told.{Rose, told}
 
@@ -119,8 +119,8 @@ then_answer (Err e) second = Err e
 
 -- a round of this course, in which the armings after its reports were tried so: a wait that was refused or failed is
 -- finished with no reports
-pub record Ran {W : Type 0} (woke : W → ℕ → W → Type 0) (timeout : Option ℕ) (before after : Option (List Event))
-    (moment now : ℕ) (old new : ReactorState) (wakes wakes' : W) (answer : Result (Unit {0}) ReactError)
+pub record Ran {W : Type 0} (woke : W → ℕ → W → Type 0) (timeout : Option ℕ) (ample : Bool)
+    (before after : Option (List Event)) (moment now : ℕ) (old new : ReactorState) (wakes wakes' : W) (answer : Result (Unit {0}) ReactError)
     (course : Course) (tries : List Try) : Type 0 where
   pub form : IsCourse timeout course
   -- a wait gives no more reports than the reactor has room for
@@ -128,6 +128,7 @@ pub record Ran {W : Type 0} (woke : W → ℕ → W → Type 0) (timeout : Optio
   pub each : map (λ t. t.0) tries ≡ armings_by_all (old.core.ticker + 1) old.core.sources (course_reports course)
   pub answers : answer ≡ then_answer (course_answer course) (worst tries)
   pub gained : after ≡ told before (course_told timeout course ++ tries_told tries)
+  pub lack : LackSo ample tries
   pub clock : CourseClock moment course now
   -- the tasks that the round's end wakes
   pub tasks : List ℕ

@@ -426,7 +426,7 @@ impl Reactor {
         ensures memory { OnReactLack result ((R.outer registrar.old).ample ≡ false) }
         ensures tried { (tries : List Try)
             × Tried (armings_by_all self.old.core.ticker self.old.core.sources reports.now) result
-            (R.outer registrar.old).events (R.outer registrar.new).events tries }
+            (R.outer registrar.old).ample (R.outer registrar.old).events (R.outer registrar.new).events tries }
         ensures cause { ReactCounted result (R.outer registrar.old).poller_faults
             (R.outer registrar.new).poller_faults }
         ensures keeps { Keeps part.Poller (R.outer registrar.old) (R.outer registrar.new) }
@@ -467,8 +467,9 @@ impl Reactor {
         requires { self.old.core.hands ≡ None }
         ensures steps { CoreSteps self.old.core self.new.core }
         ensures ran { UnlessExhausted result ((course : Course) × (tries : List Try) ×
-            Ran W.woke timeout (O.outer outside.old).events (O.outer outside.new).events (O.outer outside.old).moment
-            (O.outer outside.new).moment self.old self.new wakes.old wakes.new result course tries) }
+            Ran W.woke timeout (O.outer outside.old).ample (O.outer outside.old).events (O.outer outside.new).events
+            (O.outer outside.old).moment (O.outer outside.new).moment self.old self.new wakes.old wakes.new result course
+            tries) }
         ensures closed { self.new.core.hands ≡ None }
         ensures reports { self.new.events ≡ self.old.events }
         ensures numbered { NumberedBy result self.old.core.ticker }

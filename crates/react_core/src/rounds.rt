@@ -101,7 +101,7 @@ pub(crate) fn take_reports<R: Registrar>(
     ensures hands { hands.new.items ≡ hands.old.items ++ taken_by_all ticker (entries sources.old) reports.now }
     ensures capacity { vec_capacity hands.new ≡ vec_capacity hands.old }
     ensures tried { (tries : List Try) × Tried (armings_by_all ticker (entries sources.old) reports.now) result
-        (R.outer registrar.old).events (R.outer registrar.new).events tries }
+        (R.outer registrar.old).ample (R.outer registrar.old).events (R.outer registrar.new).events tries }
     ensures memory { OnReactLack result ((R.outer registrar.old).ample ≡ false) }
     ensures cause { ReactCounted result (R.outer registrar.old).poller_faults (R.outer registrar.new).poller_faults }
     ensures keeps { Keeps part.Poller (R.outer registrar.old) (R.outer registrar.new) }

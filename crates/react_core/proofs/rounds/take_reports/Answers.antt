@@ -14,7 +14,7 @@ loop-report-init g c = record {
   hands = refl;
   room = omega (arith, c.requires.room, waiting-bound (entries c.args.sources.now) c.requires.lone);
   capacity = refl;
-  armed = TriedSoFar-none _ _;
+  armed = TriedSoFar-none _ _ _;
   cause = refl;
   keeps = record { origin = refl; moment = refl; poller = tt; rooms = refl; wires = refl; dials = refl; doors = refl; ample = refl };
   memory = tt;
@@ -43,8 +43,9 @@ loop-report-preserved g c =
       hands = hands_step t s s' rs i d lt now.sources c.loop-report.hands.items c.take_report-armed.new.hands.items now.hands ∙ before.hands;
       room = omega (arith, taken, left, before.room, now.len, now.capacity);
       capacity = now.capacity ∙ before.capacity;
-      armed = TriedSoFar-more _ _ _ (armings_by t s (get_or rs i d)) c.loop-report.answer _ _ _
-          c.take_report-armed.result (length-armings_by t s (get_or rs i d)) before.armed (armings_step t s s' rs i d lt now.sources) now.answers now.told;
+      armed = TriedSoFar-more _ _ _ (armings_by t s (get_or rs i d)) c.loop-report.answer _ _ _ _
+          c.take_report-armed.result (length-armings_by t s (get_or rs i d)) before.armed (armings_step t s s' rs i d lt now.sources) now.answers
+          (OnLack-same c.take_report-armed.result _ _ before.keeps.ample now.memory) now.told;
       cause = ReactCounted-worse c.loop-report.answer c.take_report-armed.result _ _ _ before.cause now.cause;
       memory = OnReactLack-worse c.loop-report.answer c.take_report-armed.result _ before.memory (OnLack-same c.take_report-armed.result _ _ before.keeps.ample now.memory);
       keeps = keeps-then Poller _ _ _ before.keeps now.keeps;
@@ -52,7 +53,7 @@ loop-report-preserved g c =
 
 pub returns-clause-tried : goal.returns-clause-tried
 returns-clause-tried g c =
-    TriedSoFar-all _ _ _ _ _ c.loop-report.invariant.armed
+    TriedSoFar-all _ _ _ _ _ _ c.loop-report.invariant.armed
     (ap (λ rs. armings_by_all c.args.ticker (entries c.loop-report.sources) rs) (drop_all c.loop-report.report-index c.args.reports.now c.loop-report-test.false))
 
 pub returns-clause-len : goal.returns-clause-len

@@ -15,7 +15,7 @@ invariant-loop-report g l = record {
   room : vec_len l.hands + waiting (entries l.sources) ≤ vec_capacity l.hands;
   capacity : vec_capacity l.hands ≡ vec_capacity l.fn.hands;
   armed : TriedSoFar (armings_by_all l.ticker (entries l.fn.sources) l.reports) (armings_by_all l.ticker (entries l.sources) (drop l.report-index l.reports))
-      l.answer (g.R.Tells.outer l.fn.registrar).events (g.R.Tells.outer l.registrar).events;
+      l.answer (g.R.Tells.outer l.fn.registrar).ample (g.R.Tells.outer l.fn.registrar).events (g.R.Tells.outer l.registrar).events;
   cause : ReactCounted l.answer (g.R.Tells.outer l.fn.registrar).poller_faults (g.R.Tells.outer l.registrar).poller_faults;
   memory : OnReactLack l.answer ((g.R.Tells.outer l.fn.registrar).ample ≡ false);
   keeps : Keeps Poller (g.R.Tells.outer l.fn.registrar) (g.R.Tells.outer l.registrar);

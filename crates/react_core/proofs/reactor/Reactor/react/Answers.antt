@@ -10,7 +10,7 @@ pub returns-in_err-first-clause-ran : goal.returns-in_err-first-clause-ran
 returns-in_err-first-clause-ran g c =
     let p = err_from_is_err_and c.from_residual.result c.from_residual.ensures.1 in
     UnlessExhausted-any c.from_residual.result _
-    (ran-unread g.W.Wakes.woke c.args.timeout _ _ _ _ _ _ c.from_residual.result c.in_err-first.ensures.told c.in_err-first.ensures.unread (p.1 ∙ ap Err p.2))
+    (ran-unread g.W.Wakes.woke c.args.timeout _ _ _ _ _ _ _ c.from_residual.result c.in_err-first.ensures.told c.in_err-first.ensures.unread (p.1 ∙ ap Err p.2))
 
 pub returns-clause-steps : goal.returns-clause-steps
 returns-clause-steps g c = then-steps (rw (← c.self-2.view_is) at c.in_ok-begun.ensures.steps) (rw (← c.self-3.view_is) at c.finish_round-finished.ensures.steps)
@@ -21,7 +21,7 @@ returns-clause-ran g c =
     let waited = c.wait_for_reports-waited.ensures in
     let finished = c.finish_round-finished.ensures in
     UnlessExhausted-any c.first_refusal.result _
-    (ran-read g.W.Wakes.woke c.args.timeout _ _ _ _ _ _ _ _ c.in_ok-first.first _ _ _ _ _ _ c.split_at.result.0.now c.wait_for_reports-waited.result
+    (ran-read g.W.Wakes.woke c.args.timeout _ _ _ _ _ _ _ _ _ c.in_ok-first.first _ _ _ _ _ _ c.split_at.result.0.now c.wait_for_reports-waited.result
     c.finish_round-finished.result c.first_refusal.result
     now.told now.forward now.reading (rw (← c.self-2.view_is) at c.in_ok-begun.ensures.step) (rw (ap (λ (b : Begun). b.timeout) c.in_ok-begun.ensures.begun) at waited.pause)
     (rw (← c.count_of.ensures) c.split_at.ensures.front)
@@ -35,13 +35,13 @@ returns-clause-ran g c =
       ap (λ (s : ReactorState). s.events) c.self-2.view_is,
       ap (λ (s : ReactorState). s.events) c.in_ok-begun.ensures.core,
     ))
-    finished.keeps.moment finished.tried (rw (← c.self-3.view_is) at finished.step) finished.woken c.first_refusal.ensures)
+    finished.keeps.moment (rw (waited.keeps.ample, now.keeps.ample) at finished.tried) (rw (← c.self-3.view_is) at finished.step) finished.woken c.first_refusal.ensures)
 
 pub returns-clause-cause : goal.returns-clause-cause
 returns-clause-cause g c =
     RoundCounted-both c.wait_for_reports-waited.result c.finish_round-finished.result c.first_refusal.result _ _ _
     (rw c.in_ok-first.ensures.keeps.poller at c.wait_for_reports-waited.ensures.cause) c.finish_round-finished.ensures.cause
-    (λ e is. refused_alone c.args.timeout _ _ _ _ _ _ _ _ c.split_at.result.0.now _ c.wait_for_reports-waited.result c.finish_round-finished.result e is
+    (λ e is. refused_alone c.args.timeout _ _ _ _ _ _ _ _ c.split_at.result.0.now _ c.wait_for_reports-waited.result c.finish_round-finished.result e _ is
     (rw (ap (λ (b : Begun). b.timeout) c.in_ok-begun.ensures.begun) at c.wait_for_reports-waited.ensures.pause)
     (rw (← c.count_of.ensures) c.split_at.ensures.front) c.finish_round-finished.ensures.tried)
     c.first_refusal.ensures
