@@ -4,6 +4,7 @@ pub mod Visits
 pub mod Going
 pub mod Settled
 pub mod Headline
+pub mod Failing
 pub mod Rows
 pub mod Refusals
 pub mod Laws
