@@ -28,6 +28,7 @@ use Rattle.bus_visit.specs.Dialled.{Answered, dials_of, DialsTo, as_opened, as_d
 use Rattle.bus_visit.specs.Registry.{Idle, held_at, with_held}
 use Rattle.bus_visit.specs.Shown.{AllSane, IsBetweenCalls, shown, Tags, tags, tag_at, without_tag, has_wire, Single}
 use Rattle.bus_visit.specs.Visited.{KeepsCall, MakesRegisteredVisit, Registers, FirstTags, FirstVisits, undialled, dialled}
+use Rattle.bus_visit.specs.Failing.{IfPoller, RegisteredVisitFails, OpenedFails, unregistered, registered, FirstVisitFails}
 use Rattle.bus_visit.specs.Noted.{Holds}
 use Rattle.bus_visit.specs.laws.Dials.{dials-waits}
 use Rattle.bus_visit.specs.laws.Sources.{held_at-shown, with_new-shown}
@@ -129,6 +130,36 @@ module _ (old mid : Core) (wire key : ℕ) (free : source_of old.sources key ≡
         },
       )
 
+  -- a call of the poller failed in the visit
+  pub inserted-fails : (s : Session) (wired : dialling.Opened) (ample : Bool) (r0 r1 r2 : Option (List Event))
+      (client : Opening) → StandsIn (conversation s.party wired) [] client → client.written ≡ [] →
+      r1 ≡ told r0 (event.Add wire key true ∷ []) → RegisteredVisitFails wire key ample r1 r2 mid client →
+      OpenedFails s wire wired ample r0 r2 old
+  inserted-fails s wired ample r0 r1 r2 client stands unwritten added fails =
+      let F : Option (List Event) → Type 0 = λ r. RegisteredVisitFails wire key ample r r2 mid client in
+      registered (record {
+        talk = conversation s.party wired;
+        client = client;
+        key = key;
+        mid = mid;
+        begins = refl;
+        stands = stands;
+        unwritten = unwritten;
+        free = inserted-free;
+        core = is;
+        shows = inserted-shows;
+        fails = subst F added fails;
+      })
+
+-- the registration failed
+pub insert-fails : (s : Session) (wire : ℕ) (wired : dialling.Opened) (ample : Bool) (e : ReactError)
+    (r0 r1 : Option (List Event)) (old : Core) → InsertTold old wire (Err e) r0 r1 →
+    IfPoller e (OpenedFails s wire wired ample r0 r1 old)
+insert-fails s wire wired ample react_error.Poller r0 r1 old (key, free, gained) =
+    unregistered key (held_at-shown old.sources key ∙ ap (option_map _) free) gained
+insert-fails s wire wired ample react_error.OutOfMemory r0 r1 old gained = tt
+insert-fails s wire wired ample (react_error.Exhausted counter value) r0 r1 old gained = tt
+
 -- the insertion was refused
 pub insert-keeps : (wire : ℕ) (e : ReactError) (r0 r1 : Option (List Event)) (old new : Core) → IsBetweenCalls old →
     InsertTold old wire (Err e) r0 r1 → new ≡ old → KeepsCall (tags old.sources) r0 r1 old new
@@ -176,3 +207,13 @@ pub dialled-keeps : (wire : ℕ) (dials : List Answered) (r0 r1 r2 : Option (Lis
     KeepsCall (tags old.sources) r1 r2 old new → KeepsCall (tags old.sources) r0 r2 old new
 dialled-keeps wire dials r0 r1 r2 old new gained keeps =
     keeps-after (tags old.sources) r0 r1 r2 old old new (dials_of wire dials) gained (dials-waits wire dials) refl refl keeps
+
+-- a call of the poller failed behind the dialling
+pub dialled-fails : (s : Session) (wire : ℕ) (reached : Reached) (wired : OpenWire) (ample : Bool)
+    (r0 r1 r2 : Option (List Event)) (old : Core) → (dials : List Answered) ×
+    DialsTo wire (dialling.begins s.party) (as_dialling reached.dialled) r0 r1 dials →
+    reached.dialled ≡ dialleds.Opened wired → OpenedFails s wire (as_opened wired) ample r1 r2 old →
+    FirstVisitFails s wire ample r0 r2 old
+dialled-fails s wire reached wired ample r0 r1 r2 old (dials, to) is fails =
+    let T : Dialled → Type 0 = λ d. DialsTo wire (dialling.begins s.party) (as_dialling d) r0 r1 dials in
+    record { dials = dials; opened = as_opened wired; mid = r1; dialled = subst T is to; fails = fails }

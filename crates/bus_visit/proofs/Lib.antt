@@ -1,4 +1,5 @@
 pub mod NewTags
+pub mod FailureLemmas
 pub mod PollChangesSources
 pub mod NotReadyNotes
 pub mod OtherWiresStay

@@ -1,22 +1,27 @@
 -- A stop, as the reactor's poll notes it.
-use Rattle.std.proofs.Common.{◌≡◌, ◌<◌, ◌+◌, ◌-◌, ◌^◌, ℕ, Bool, true, false, ◌||◌, ◌==◌, if◌then◌else◌, List, [], ◌∷◌, length, map, min, Option, Some, None, Ok, refl, sym, ◌∙◌, ap, subst, arith}
+use Rattle.std.proofs.Common.{◌≡◌, ◌<◌, ◌+◌, ◌-◌, ◌^◌, ℕ, Bool, true, false, ◌||◌, ◌==◌, if◌then◌else◌, List, [], ◌∷◌, length, map, min, Option, Some, None, Ok, Err, refl, sym, ◌∙◌, ap, subst, arith}
 use Rattle.std.proofs.lemmas.Bool.{eq-eqb}
 use Rattle.std.specs.Option.{option_map}
 use Rattle.futures.specs.declared.task.Poll.{Poll}
+use Rattle.futures.specs.declared.task.Poll.TheVariants.{Pending}
 use Rattle.react_core.specs.declared.outside.Event.{Event}
 use Rattle.react_core.specs.declared.outside.Event.TheVariants as event
 use Rattle.react_core.specs.declared.reactor.Dir.{Dir}
 use Rattle.react_core.specs.declared.reactor.Dir.TheVariants.{Read, Write}
+use Rattle.react_core.specs.declared.reactor.ReactError.{ReactError}
+use Rattle.react_core.specs.declared.reactor.ReactError.TheVariants as react_error
 use Rattle.react_core.specs.Places.{Direction, Source}
 use Rattle.react_core.specs.Told.{told}
 use Rattle.react_core.specs.Core.{Core, HasSource}
+use Rattle.react_core.specs.Sources as sources_of
 use Rattle.react_core.specs.Sources.{source_of, side, with_side}
-use Rattle.react_core.specs.Readiness.{Outcome, direction_outcome, source_outcome, poll_outcome, poll_answer, poll_told, woken_by, arms, after_source_poll, armed, is_ready}
+use Rattle.react_core.specs.Readiness.{Outcome, direction_outcome, source_outcome, poll_outcome, poll_answer, poll_told, woken_by, arms, after_source_poll, after_poll, armed, is_ready, is_read, is_write}
 use Rattle.react_core.specs.Step.{Step, PolledPoll, Polled}
 use Rattle.bus_visit.specs.Counts.{after_begun}
 use Rattle.bus_visit.specs.Registry.{Side, Idle, Waits, Reported, waits, side_held, Held, held_at, arming, noted, stopped_held, Apart, Distinct}
 use Rattle.bus_visit.specs.Asking.{arms_at}
 use Rattle.bus_visit.specs.Shown.{shown, side_of, poll_of, Sane, SaneSource, AllSane, IsBetweenCalls, tags}
+use Rattle.bus_visit.specs.Failing.{IfPoller, NoteFails}
 use Rattle.bus_visit.specs.Noted.{Holds, NotReadyNoted, arms_told, asks_again}
 use Rattle.bus_visit.specs.laws.Sources.{shown_at, waits-side, held_at-shown}
 use Rattle.bus_visit.specs.laws.Tags.{tags-with_source}
@@ -219,3 +224,73 @@ pub readied : (old new : Core) (wire key : ℕ) (dir : Dir) (answer : Poll (Unit
     (h : Held) × NotReadyNoted wire key dir r0 r1 old new (is_ready answer) h
 readied old new wire key dir answer r0 r1 rests (h, at, wired) step gained =
     readied-found old new wire key dir answer r0 r1 h rests wired (held-source old.sources key h at) step gained
+
+-- ---- an arming that failed
+
+-- only a direction that neither waits nor was reported is armed
+arms-idle : (b : Side) → arms (poll_of b) ≡ true → b ≡ Idle
+arms-idle Idle up = refl
+arms-idle Waits up = absurd (cc)
+arms-idle Reported up = absurd (cc)
+
+failed-at : (old : Core) (wire key : ℕ) (dir : Dir) (r0 r1 : Option (List Event)) (s : Source) → IsBetweenCalls old →
+    source_of old.sources key ≡ Some s → s.wire ≡ wire → arms (poll_outcome old key dir wire) ≡ true →
+    r1 ≡ told r0 (armed (source_of old.sources key) key dir false) → NoteFails wire key dir r0 r1 old
+failed-at old wire key dir r0 r1 s rests is own up gained =
+    let h : Held = shown_at key s in
+    let b : Side = side_held dir h in
+    let sane : SaneSource old.ticker old.ticker s = sane-at old.ticker old.ticker old.sources key s rests.sane is in
+    let by : direction_outcome s.wire (side dir s) ≡ poll_of b =
+    poll-by old.ticker old.ticker s.wire (side dir s) (sane-side old.ticker old.ticker dir s sane)
+    ∙ ap poll_of (side-shown dir key s) in
+    let P : ℕ → Type 0 = λ w. direction_outcome w (side dir s) ≡ poll_of b in
+    let out : poll_outcome old key dir wire ≡ poll_of b = ap (λ o. source_outcome o dir wire) is ∙ subst P own by in
+    let idle : b ≡ Idle = arms-idle b (sym (ap arms out) ∙ up) in
+    let read : Bool = is_read dir || sources_of.waits s.read in
+    let write : Bool = is_write dir || sources_of.waits s.write in
+    let arming_so : Bool → List Event = λ ok. event.Modify wire key read write ok ∷ [] in
+    let one : (ok : Bool) → armed (source_of old.sources key) key dir ok ≡ arming_so ok =
+    λ ok. ap (λ o. armed o key dir ok) is ∙ ap (λ w. event.Modify w key read write ok ∷ []) own in
+    let would : Core = after_poll old key dir wire in
+    let step : Step old (PolledPoll key dir wire) (Polled Pending) (woken_by (poll_outcome old key dir wire)) would =
+    record {
+      known = rw is refl;
+      answered = sym (ap poll_answer (out ∙ ap poll_of idle));
+      wakes = refl;
+      core = refl;
+    } in
+    let told-so : told r0 (arming_so true) ≡ told r0 (poll_told old key dir wire (Ok Pending)) =
+    ap (told r0) (sym (ap (λ a. if a then armed (source_of old.sources key) key dir true else []) up ∙ one true)) in
+    record {
+      would = would;
+      held = h;
+      read = read;
+      write = write;
+      arms = ap (λ x. arms_told (arms_at dir h x)) idle
+          ∙ (sym (armed-shown old.ticker old.ticker dir key s sane idle)
+          ∙ ap (λ w. event.Modify w key read write true ∷ []) own);
+      noted = readied-at old would wire key dir Pending r0 (told r0 (arming_so true)) s rests is own step told-so;
+      gained = gained ∙ ap (told r0) (one false);
+    }
+
+failed-found : (old : Core) (wire key : ℕ) (dir : Dir) (r0 r1 : Option (List Event)) (h : Held) → IsBetweenCalls old →
+    h.wire ≡ wire → (s : Source) × (source_of old.sources key ≡ Some s) × (shown_at key s ≡ h) →
+    arms (poll_outcome old key dir wire) ≡ true → r1 ≡ told r0 (armed (source_of old.sources key) key dir false) →
+    NoteFails wire key dir r0 r1 old
+failed-found old wire key dir r0 r1 h rests wired (s, is, show) up gained =
+    failed-at old wire key dir r0 r1 s rests is (ap (λ y. y.wire) show ∙ wired) up gained
+
+note-fails : (old : Core) (wire key : ℕ) (dir : Dir) (r0 r1 : Option (List Event)) → IsBetweenCalls old →
+    Holds old key wire → arms (poll_outcome old key dir wire) ≡ true →
+    r1 ≡ told r0 (armed (source_of old.sources key) key dir false) → NoteFails wire key dir r0 r1 old
+note-fails old wire key dir r0 r1 rests (h, at, wired) up gained =
+    failed-found old wire key dir r0 r1 h rests wired (held-source old.sources key h at) up gained
+
+-- the poll was for the task of this wire
+pub refused-note : (old : Core) (wire task key : ℕ) (dir : Dir) (e : ReactError) (r0 r1 : Option (List Event)) →
+    task ≡ wire → IsBetweenCalls old → Holds old key wire → arms (poll_outcome old key dir task) ≡ true →
+    r1 ≡ told r0 (poll_told old key dir task (Err e)) → IfPoller e (NoteFails wire key dir r0 r1 old)
+refused-note old wire task key dir react_error.Poller r0 r1 same rests holds up gained =
+    note-fails old wire key dir r0 r1 rests holds (ap (λ t. arms (poll_outcome old key dir t)) (sym same) ∙ up) gained
+refused-note old wire task key dir react_error.OutOfMemory r0 r1 same rests holds up gained = tt
+refused-note old wire task key dir (react_error.Exhausted c value) r0 r1 same rests holds up gained = tt

@@ -1,9 +1,9 @@
 -- The end of a visit: a session that sleeps, or whose source is taken out.
-use Rattle.std.proofs.Common.{◌≡◌, ℕ, Bool, true, false, ◌==◌, List, [], ◌∷◌, ◌++◌, map, Option, Some, None, Result, Ok, Err, refl, sym, ◌∙◌, ap, subst}
-use Rattle.std.proofs.lemmas.List.{append-nil}
+use Rattle.std.proofs.Common.{◌≡◌, inl, inr, ℕ, Bool, true, false, ◌==◌, List, [], ◌∷◌, ◌++◌, map, Option, Some, None, Result, Ok, Err, refl, sym, ◌∙◌, ap, subst}
+use Rattle.std.proofs.lemmas.List.{append-nil, append_assoc}
 use Rattle.react_core.specs.Told.{told, told-told, told-nothing}
 use Rattle.react_core.specs.Core.{Core, HasSource, removed}
-use Rattle.react_core.specs.Causes.{RemoveTold}
+use Rattle.react_core.specs.Causes.{RemoveTold, OnReactLack}
 use Rattle.react_core.specs.Sources.{source_of, without}
 use Rattle.react_core.specs.Places.{Source}
 use Rattle.react_core.specs.declared.reactor.ReactError.{ReactError}
@@ -18,13 +18,15 @@ use Rattle.bus_visit.specs.declared.visiting.Slot.TheVariants as slot
 use Rattle.bus_visit.specs.Registry.{Held, held_at, registry, without_held}
 use Rattle.bus_visit.specs.Counts.{waits_in}
 use Rattle.bus_visit.specs.Shown.{IsBetweenCalls, shown, tags, tag_at, without_tag, AllSane, Single}
-use Rattle.bus_visit.specs.Visited.{TurnEnd, KeepsCall, Turns, MakesRegisteredVisit}
+use Rattle.bus_visit.specs.Visited.{TurnEnd, KeepsCall, Turns, RegisteredVisit, MakesRegisteredVisit}
+use Rattle.bus_visit.specs.Failing.{TurnsFail, RemovalTold, EndFails, unarmed, undeleted, RegisteredVisitFails}
 use Rattle.bus_visit.specs.Noted.{Holds, arms_told}
 use Rattle.bus_visit.specs.laws.Records.{registry-append, waits_in-append}
 use Rattle.bus_visit.specs.laws.Sources.{without-shown}
 use Rattle.bus_visit.proofs.NotReadyNotes.{held-source}
 use Rattle.bus_visit.proofs.OtherWiresStay.{without-keeps, two-keys}
-use Rattle.bus_visit.specs.laws.Tags.{tags-without, tag-has_source, held-tag, distinct-single, single-distinct, single-without}
+use Rattle.bus_visit.specs.laws.Tags.{tags-without, tag-has_source, tag-held, held-tag, distinct-single, single-distinct, single-without}
+use Rattle.bus_visit.proofs.FailureLemmas.{told-instead}
 use Rattle.bus_visit.proofs.TurnLemmas.{keeps-after}
 
 -- ---- a source is taken out
@@ -172,3 +174,87 @@ stays-ended wire key r0 r1 r2 old mid new c c' e v ended (h, h', es, o, a) is go
     let gone' : r2 ≡ told r1 (event.Delete wire key true ∷ []) = removed-at wire key mid.sources h' v r1 r2 a.wired' a.now gone in
     subst (λ x. MakesRegisteredVisit wire key r0 r2 old x c (slot.Ended ended)) (sym is) (subst (λ x. MakesRegisteredVisit wire key r0 r2 old (removed mid key) c (slot.Ended x)) (sym value)
     (stays-over wire key r0 r1 r2 old mid c c' e (h, h', es, o, a) gone'))
+
+-- ---- a call of the poller that failed
+
+-- what the removal of the wire's source told
+removal-told : {T : Type 0} (ample : Bool) (wire key : ℕ) (sources : List (ℕ × Source)) (h : Held) (r : Result T ReactError)
+    (before after : Option (List Event)) → h.wire ≡ wire → held_at (map shown sources) key ≡ Some h →
+    OnReactLack r (ample ≡ false) → RemoveTold (source_of sources key) key r before after →
+    (own : List Event) × RemovalTold ample wire key own × (after ≡ told before own)
+removal-told ample wire key sources h r before after wired at lack gone =
+    let found = held-source sources key h at in
+    told_by found.0 r (ap (λ y. y.wire) found.2 ∙ wired) lack (subst (λ x. RemoveTold x key r before after) found.1 gone)
+  where
+    told_by : {T : Type 0} (s : Source) (r : Result T ReactError) → s.wire ≡ wire → OnReactLack r (ample ≡ false) →
+        RemoveTold (Some s) key r before after →
+        (own : List Event) × RemovalTold ample wire key own × (after ≡ told before own)
+    told_by s (Ok v) is lack gone =
+        (event.Delete wire key true ∷ [], inl (true, refl), gone ∙ ap (λ w. told before (event.Delete w key true ∷ [])) is)
+    told_by s (Err react_error.Poller) is lack gone =
+        (event.Delete wire key false ∷ [], inl (false, refl), gone ∙ ap (λ w. told before (event.Delete w key false ∷ [])) is)
+    told_by s (Err react_error.OutOfMemory) is lack gone = ([], inr (lack, refl), gone ∙ told-nothing before)
+    told_by s (Err (react_error.Exhausted c value)) is lack gone = absurd gone
+
+-- the arming failed, and the source was taken out
+pub visit-unarmed : {T : Type 0} (ample : Bool) (wire key : ℕ) (r0 r1 r2 : Option (List Event)) (old mid : Core) (c : Opening)
+    (r : Result T ReactError) → Holds old key wire → tags mid.sources ≡ tags old.sources → TurnsFail wire key r0 r1 old c →
+    OnReactLack r (ample ≡ false) → RemoveTold (source_of mid.sources key) key r r1 r2 →
+    RegisteredVisitFails wire key ample r0 r2 old c
+unfolding stays-asleep
+visit-unarmed ample wire key r0 r1 r2 old mid c r holds same f lack gone =
+    let there = tag-held mid.sources key wire (ap (λ ts. tag_at ts key) same ∙ held_tag holds) in
+    let own = removal-told ample wire key mid.sources there.0 r r1 r2 there.2 there.1 lack gone in
+    let stays = stays-asleep wire key r0 (told r0 (f.calls ++ arms_told f.arms)) old f.would c f.client
+    (f.held, f.then_held, f.calls, f.arms, f.turned) in
+    let E : List Event → Type 0 = λ tail. EndFails wire key ample tail (event.Modify wire key f.read f.write false) own.0 in
+    record {
+      would = f.would;
+      slot = slot.Asleep (record { key = key; client = f.client });
+      held = f.held;
+      then_held = f.then_held;
+      calls = f.calls;
+      arms = f.arms;
+      call = event.Modify wire key f.read f.write false;
+      own = own.0;
+      visits = stays.4;
+      fails = subst E (sym f.armed) (unarmed f.read f.write own.0 own.1);
+      gained = own.2
+          ∙ (ap (λ x. told x own.0) f.gained
+          ∙ (told-told r0 (f.calls ++ event.Modify wire key f.read f.write false ∷ []) own.0
+          ∙ ap (told r0) (append_assoc f.calls (event.Modify wire key f.read f.write false ∷ []) own.0)));
+    }
+  where
+    held_tag : Holds old key wire → tag_at (tags old.sources) key ≡ Some wire
+    held_tag (h, at, wired) = held-tag old.sources key h at ∙ ap Some wired
+
+-- the session has ended, and the removal of its source failed
+pub visit-undeleted : (T : Type 0) (ample : Bool) (wire key : ℕ) (r0 r1 r2 : Option (List Event)) (old mid : Core)
+    (c c' : Opening) (e : Ending) → Turns wire key r0 r1 old mid c c' (turn_end.Over e) →
+    RemoveTold {T = T} (source_of mid.sources key) key (Err react_error.Poller) r1 r2 →
+    RegisteredVisitFails wire key ample r0 r2 old c
+unfolding stays-over
+visit-undeleted T ample wire key r0 r1 r2 old mid c c' e (h, h', es, o, a) gone =
+    let good : Event = event.Delete wire key true in
+    let bad : Event = event.Delete wire key false in
+    let ended : Ended = record { ending = e; written = c'.written; leftover = c'.rest; wire = wire; moment = None } in
+    let stays = stays-over wire key r0 r1 (told r1 (good ∷ [])) old mid c c' e (h, h', es, o, a) refl in
+    let V : Option (List Event) → Type 0 =
+    λ x. RegisteredVisit wire key r0 x old (removed mid key) c (slot.Ended ended) h h' es o in
+    let found = held-source mid.sources key h' a.now in
+    let told_so : r2 ≡ told r1 (bad ∷ []) =
+    subst (λ x. RemoveTold {T = T} x key (Err react_error.Poller) r1 r2) found.1 gone
+    ∙ ap (λ w. told r1 (event.Delete w key false ∷ [])) (ap (λ y. y.wire) found.2 ∙ a.wired') in
+    record {
+      would = removed mid key;
+      slot = slot.Ended ended;
+      held = h;
+      then_held = h';
+      calls = es;
+      arms = o;
+      call = bad;
+      own = [];
+      visits = subst V stays.4.gained stays.4;
+      fails = undeleted;
+      gained = told_so ∙ told-instead r1 r0 es good stays.4.gained (bad ∷ []);
+    }

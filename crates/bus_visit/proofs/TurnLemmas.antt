@@ -1,11 +1,12 @@
 -- A turn of a visit: a poll of the conversation, and the note of its stop; and one turn after another.
-use Rattle.std.proofs.Common.{◌≡◌, ◌⊎◌, inl, inr, ℕ, Bool, true, false, List, [], ◌++◌, map, length, Option, Some}
+use Rattle.std.proofs.Common.{◌≡◌, ◌⊎◌, inl, inr, ℕ, Bool, true, false, List, [], ◌∷◌, ◌++◌, map, length, Option, Some}
 use Rattle.std.proofs.Common.{None, Result, Ok, Err, OnErr, ◌<◌, ◌^◌, if◌then◌else◌, arith, refl, sym, ◌∙◌, ap, subst}
 use Rattle.std.specs.Option.{option_and_then}
 use Rattle.std.proofs.lemmas.List.{append_assoc, append-nil}
 use Rattle.react_core.specs.Told.{told, told-told}
 use Rattle.react_core.specs.Core.{Core}
 use Rattle.react_core.specs.declared.outside.Event.{Event}
+use Rattle.react_core.specs.declared.outside.Event.TheVariants as event
 use Rattle.react_core.specs.declared.reactor.Dir.{Dir}
 use Rattle.react_core.specs.declared.reactor.Dir.TheVariants.{Read, Write}
 use Rattle.bus_opening.specs.Openings.{Opening}
@@ -19,11 +20,13 @@ use Rattle.bus_visit.specs.Registry.{Held, Side, Idle, Waits, Reported, stopped,
 use Rattle.bus_visit.specs.Asking.{asks, begins, arms_at}
 use Rattle.bus_visit.specs.Shown.{IsBetweenCalls, shown, Tags, tags}
 use Rattle.bus_visit.specs.Conversed.{stands_at, GoesOn, PausesAt, Stops, ConversesTo, IsInterrupted}
-use Rattle.bus_visit.specs.Visited.{TurnEnd, KeepsCall, TurnEndsAs, Turns, may_ask, OnAgain}
+use Rattle.bus_visit.specs.Visited.{TurnEnd, KeepsCall, TurnEndsAs, Turned, Turns, may_ask, OnAgain}
 use Rattle.bus_visit.specs.Noted.{Holds, arms_told, asks_again, NotReadyNoted}
 use Rattle.bus_visit.specs.laws.Records.{registry-append, asks-append, goes-append, waits_in-append, AreCalls-append}
 use Rattle.bus_visit.specs.laws.Records.{answered-asks, answered-shows, answered-waits, stops-asks, stops-shows}
 use Rattle.bus_visit.specs.laws.Records.{stops-waits}
+use Rattle.bus_visit.specs.Failing.{NoteFails, TurnsFail}
+use Rattle.bus_visit.proofs.FailureLemmas.{told-instead}
 use Rattle.bus_visit.proofs.NotReadyNotes.{stopped-wire}
 use Rattle.bus_visit.proofs.OtherWiresStay.{noted-keeps}
 use Rattle.bus_visit.specs.laws.Armings.{arming-quiet, arming-apart, arming-waits}
@@ -310,3 +313,79 @@ ends-asleep false is = refl
 pub ends-again : (again : Bool) → again ≡ true → turn_end.Again ≡ (if again then turn_end.Again else turn_end.Asleep)
 ends-again true is = refl
 ends-again false is = cc
+
+-- ---- an arming that failed
+
+-- turns that end with these armings
+TurnsSo : (Option (List Event) → Type 0) → ℕ → ℕ → Option (List Event) → Option (List Event) → Core → Core → Opening →
+    Opening → Type 0
+TurnsSo P wire key r0 r1 old new c c' =
+    (h : Held) × (h' : Held) × (calls : List Event) × (o : Option (List Event)) ×
+    Turned wire key r0 r1 old new c c' turn_end.Asleep h h' calls o × P o
+
+turns-so-more : (P : Option (List Event) → Type 0) (wire key : ℕ) (r0 r1 r2 : Option (List Event)) (old mid new : Core)
+    (c c1 c2 : Opening) → Turns wire key r0 r1 old mid c c1 turn_end.Again → TurnsSo P wire key r1 r2 mid new c1 c2 →
+    TurnsSo P wire key r0 r2 old new c c2
+unfolding TurnsSo turns-more
+turns-so-more P wire key r0 r1 r2 old mid new c c1 c2 (h, h', es, o, a) (k, k', es2, o2, b, p) =
+    let t = turns-more wire key r0 r1 r2 old mid new c c1 c2 turn_end.Asleep (h, h', es, o, a) (k, k', es2, o2, b) in
+    (t.0, t.1, t.2, t.3, t.4, p)
+
+turning-so-more : (P : Option (List Event) → Type 0) (wire key : ℕ) (r0 r1 r2 : Option (List Event)) (old mid new : Core)
+    (c c1 c2 : Opening) → Turning wire key r0 r1 old mid c c1 → TurnsSo P wire key r1 r2 mid new c1 c2 →
+    TurnsSo P wire key r0 r2 old new c c2
+turning-so-more P wire key r0 r1 r2 old mid new c c1 c2 (inl (r, core, client)) turns =
+    let A : Core → Type 0 = λ x. TurnsSo P wire key r0 r2 x new c c2 in
+    let B : Option (List Event) → Type 0 = λ x. TurnsSo P wire key x r2 mid new c c2 in
+    let C : Opening → Type 0 = λ x. TurnsSo P wire key r1 r2 mid new x c2 in
+    subst A core (subst B r (subst C client turns))
+turning-so-more P wire key r0 r1 r2 old mid new c c1 c2 (inr first) turns =
+    turns-so-more P wire key r0 r1 r2 old mid new c c1 c2 first turns
+
+-- one turn, which would end with the arming
+turn-so : (wire key : ℕ) (dir : Dir) (r1 r2 r3 : Option (List Event)) (mid : Core) (c1 c2 : Opening)
+    (f : NoteFails wire key dir r2 r3 mid) → ConversesTo wire r1 r2 c1 c2 (conversed.Paused dir) →
+    TurnsSo (λ o. arms_told o ≡ event.Modify wire key f.read f.write true ∷ []) wire key r1
+    (told r2 (event.Modify wire key f.read f.write true ∷ [])) mid f.would c1 c2
+unfolding TurnsSo turned-stop stopped-turn
+turn-so wire key dir r1 r2 r3 mid c1 c2 f (calls, es) =
+    let t =
+    turned-stop wire key dir r1 r2 (told r2 (event.Modify wire key f.read f.write true ∷ [])) mid f.would c1 c2 false
+    turn_end.Asleep (calls, es) (f.held, f.noted) refl in
+    (t.0, t.1, t.2, t.3, t.4, f.arms)
+
+turns-failed : (wire key : ℕ) (dir : Dir) (r0 r2 r3 : Option (List Event)) (old mid : Core) (c c2 : Opening)
+    (f : NoteFails wire key dir r2 r3 mid) →
+    TurnsSo (λ o. arms_told o ≡ event.Modify wire key f.read f.write true ∷ []) wire key r0
+    (told r2 (event.Modify wire key f.read f.write true ∷ [])) old f.would c c2 → TurnsFail wire key r0 r3 old c
+unfolding TurnsSo
+turns-failed wire key dir r0 r2 r3 old mid c c2 f (h, h', calls, o, t, armed) =
+    let T : Option (List Event) → Type 0 =
+    λ x. Turned wire key r0 x old f.would c c2 turn_end.Asleep h h' calls o in
+    let good : told r2 (event.Modify wire key f.read f.write true ∷ [])
+        ≡ told r0 (calls ++ event.Modify wire key f.read f.write true ∷ []) =
+    t.gained ∙ ap (λ x. told r0 (calls ++ x)) armed in
+    record {
+      would = f.would;
+      client = c2;
+      held = h;
+      then_held = h';
+      calls = calls;
+      arms = o;
+      read = f.read;
+      write = f.write;
+      armed = armed;
+      turned = subst T t.gained t;
+      gained = f.gained
+          ∙ told-instead r2 r0 calls (event.Modify wire key f.read f.write true) good
+          (event.Modify wire key f.read f.write false ∷ []);
+    }
+
+-- turns that each asked again, and one whose arming failed
+pub turns-fail : (wire key : ℕ) (dir : Dir) (r0 r1 r2 r3 : Option (List Event)) (old mid : Core) (c c1 c2 : Opening) →
+    Turning wire key r0 r1 old mid c c1 → ConversesTo wire r1 r2 c1 c2 (conversed.Paused dir) →
+    NoteFails wire key dir r2 r3 mid → TurnsFail wire key r0 r3 old c
+turns-fail wire key dir r0 r1 r2 r3 old mid c c1 c2 turning stops f =
+    turns-failed wire key dir r0 r2 r3 old mid c c2 f
+    (turning-so-more _ wire key r0 r1 _ old mid f.would c c1 c2 turning
+    (turn-so wire key dir r1 r2 r3 mid c1 c2 f stops))

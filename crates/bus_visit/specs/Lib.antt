@@ -9,4 +9,5 @@ pub mod Dialled
 pub mod Conversed
 pub mod Noted
 pub mod Visited
+pub mod Failing
 pub mod laws

@@ -3,6 +3,7 @@
 ghost use Rattle.std.specs.Prelude.{◌≡◌, IfOk, OnErr};
 ghost use Rattle.react_core.specs.Outer.{Keeps};
 ghost use Rattle.react_core.specs.Outer as part;
+ghost use Rattle.bus_visit.specs.Failing.{OnPoller, NoteFails};
 ghost use Rattle.bus_visit.specs.Noted.{Holds, NotReadyNoted};
 ghost use Rattle.bus_visit.specs.Registry.{Held};
 ghost use Rattle.bus_visit.specs.Shown.{IsBetweenCalls, tags};
@@ -33,6 +34,8 @@ pub fn note_not_ready<R: Registrar, W: Wakes>(
     ensures refused { OnErr result
         (KeepsCall (tags reactor.old.core.sources) ((R.outer registrar.old).events) ((R.outer registrar.new).events)
         reactor.old.core reactor.new.core) }
+    ensures failed { OnPoller result
+        (NoteFails wire key dir ((R.outer registrar.old).events) ((R.outer registrar.new).events) reactor.old.core) }
     ensures cause { VisitCounted result ((R.outer registrar.old).poller_faults)
         ((R.outer registrar.new).poller_faults) }
     ensures keeps { Keeps part.Poller (R.outer registrar.old) (R.outer registrar.new) }

@@ -5,6 +5,7 @@ ghost use Rattle.react_core.specs.Outer.{Keeps};
 ghost use Rattle.react_core.specs.Outer as part;
 ghost use Rattle.bus_session.specs.Dialling.{expects};
 ghost use Rattle.bus_visit.specs.Dialled.{as_opened};
+ghost use Rattle.bus_visit.specs.Failing.{OnPoller, TurnsFail, RegisteredVisitFails, OpenedFails, FirstVisitFails};
 ghost use Rattle.bus_visit.specs.Faults.{OverCounted, SlotCounted};
 ghost use Rattle.bus_visit.specs.Noted.{Holds};
 ghost use Rattle.bus_visit.specs.Shown.{IsBetweenCalls, tags, without_tag, has_wire};
@@ -99,6 +100,9 @@ fn resume<O: Wire + Registrar, W: Wakes>(
     ensures refused { OnErr result
         (KeepsCall (tags reactor.old.core.sources) ((O.outer outside.old).events) ((O.outer outside.new).events)
         reactor.old.core reactor.new.core) }
+    ensures failed { OnPoller result
+        (TurnsFail wire key ((O.outer outside.old).events) ((O.outer outside.new).events) reactor.old.core
+        client.old) }
     ensures cause { VisitCounted result ((O.outer outside.old).poller_faults) ((O.outer outside.new).poller_faults) }
     ensures counted { IfOk result
         (λ r. OverCounted wire r (O.outer outside.old) (O.outer outside.new)) }
@@ -135,6 +139,9 @@ pub fn visit<O: Wire + Registrar, W: Wakes>(
     ensures refused { OnErr result
         (KeepsCall (without_tag (tags reactor.old.core.sources) sleeper.key) ((O.outer outside.old).events)
         ((O.outer outside.new).events) reactor.old.core reactor.new.core) }
+    ensures failed { OnPoller result
+        (RegisteredVisitFails wire sleeper.key (O.outer outside.old).ample ((O.outer outside.old).events)
+        ((O.outer outside.new).events) reactor.old.core sleeper.client) }
     ensures cause { VisitCounted result ((O.outer outside.old).poller_faults) ((O.outer outside.new).poller_faults) }
     ensures counted { IfOk result (λ slot. SlotCounted wire slot (O.outer outside.old) (O.outer outside.new)) }
     ensures keeps { Keeps (part.Visit wire) (O.outer outside.old) (O.outer outside.new) }
@@ -175,6 +182,9 @@ fn visit_opened<O: Wire + Registrar, W: Wakes>(
     ensures refused { OnErr result
         (KeepsCall (tags reactor.old.core.sources) ((O.outer outside.old).events) ((O.outer outside.new).events)
         reactor.old.core reactor.new.core) }
+    ensures failed { OnPoller result
+        (OpenedFails session.now wire (as_opened opened.now) (O.outer outside.old).ample ((O.outer outside.old).events)
+        ((O.outer outside.new).events) reactor.old.core) }
     ensures cause { VisitCounted result ((O.outer outside.old).poller_faults) ((O.outer outside.new).poller_faults) }
     ensures counted { IfOk result (λ slot. SlotCounted wire slot (O.outer outside.old) (O.outer outside.new)) }
     ensures keeps { Keeps (part.Visit wire) (O.outer outside.old) (O.outer outside.new) }
@@ -210,6 +220,9 @@ pub fn first_visit<O: Wire + Dialer + Registrar, W: Wakes>(
     ensures refused { OnErr result
         (KeepsCall (tags reactor.old.core.sources) ((O.outer outside.old).events) ((O.outer outside.new).events)
         reactor.old.core reactor.new.core) }
+    ensures failed { OnPoller result
+        (FirstVisitFails session.now wire (O.outer outside.old).ample ((O.outer outside.old).events)
+        ((O.outer outside.new).events) reactor.old.core) }
     ensures cause { VisitCounted result ((O.outer outside.old).poller_faults) ((O.outer outside.new).poller_faults) }
     ensures counted { IfOk result (λ slot. SlotCounted wire slot (O.outer outside.old) (O.outer outside.new)) }
     ensures keeps { Keeps (part.Visit wire) (O.outer outside.old) (O.outer outside.new) }

@@ -2,8 +2,6 @@ use Rattle.std.proofs.Common.{refl, sym, ◌∙◌}
 use Rattle.std.specs.Option.{option_copied}
 use Rattle.react_core.specs.Outer.{keeps-then}
 use Rattle.react_core.specs.Outer as part
-use Rattle.react_core.specs.declared.outside.Fault.TheVariants as fault
-use Rattle.bus_visit.specs.laws.Faults.{rises-visit}
 use Rattle.bus_visit.proofs.DialLemmas.{peer-failed, peer-opened, failed-counted, dial-keeps}
 use Rattle.bus_visit.proofs.dialling.dial_peers.Goals as goal
 

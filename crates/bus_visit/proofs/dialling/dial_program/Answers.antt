@@ -1,4 +1,4 @@
-use Rattle.std.proofs.Common.{Ok, sym, ap, ◌∙◌, map}
+use Rattle.std.proofs.Common.{Ok, sym, ◌∙◌}
 use Rattle.std.specs.Option.{option_copied}
 use Rattle.react_core.specs.declared.outside.Question.TheVariants as question
 use Rattle.bus_session.specs.declared.ended.Ending.TheVariants as ending

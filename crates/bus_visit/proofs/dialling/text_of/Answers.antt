@@ -1,4 +1,3 @@
-use Rattle.std.specs.Prelude.{Ok, Err}
 use Rattle.std.proofs.lemmas.Str.{is_utf8-from_IsUtf8}
 use Rattle.bus_visit.proofs.DialLemmas.{text-refused}
 use Rattle.bus_visit.proofs.dialling.text_of.Goals as goal

@@ -1,6 +1,7 @@
 use Rattle.bus_visit.proofs.TurnLemmas.{on-err}
 use Rattle.bus_visit.proofs.VisitFrames.{failure-awake}
-use Rattle.bus_visit.proofs.FirstVisit.{if-ok, refused-by, first-undialled, first-dialled, dials-keep, dialled-keeps}
+use Rattle.bus_visit.proofs.FirstVisit.{if-ok, refused-by, first-undialled, first-dialled, dials-keep, dialled-keeps, dialled-fails}
+use Rattle.bus_visit.proofs.FailureLemmas.{on-poller-by}
 use Rattle.bus_visit.proofs.visiting.first_visit.Goals as goal
 
 pub returns-in_err-reached-clause-refused : goal.returns-in_err-reached-clause-refused
@@ -37,3 +38,10 @@ returns-clause-visited g c =
     (failure-awake c.args.wire c.in_ok-reached.reached c.in-Failed.ending (g.O.Tells.outer c.args.outside.now)
     (g.O.Tells.outer c.dial.new.dialer) c.in-Failed.is c.in_ok-reached.ensures.counted)
     c.unconnected.ensures.value
+
+pub returns-in-Opened-clause-failed : goal.returns-in-Opened-clause-failed
+returns-in-Opened-clause-failed g c =
+    on-poller-by _ _ c.visit_opened.result (λ fails.
+    dialled-fails c.args.session.now c.args.wire c.in_ok-reached.reached c.in-Opened.opened _ _ _ _
+    c.args.reactor.now.core c.in_ok-reached.ensures.told c.in-Opened.is
+    (rw c.dial.ensures.keeps.ample at fails)) c.visit_opened.ensures.failed

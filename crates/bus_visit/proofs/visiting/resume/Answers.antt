@@ -4,8 +4,9 @@ use Rattle.react_core.specs.Outer as part
 use Rattle.bus_visit.specs.Visited as turn_end
 use Rattle.bus_visit.proofs.VisitFrames.{keeps-conversed, keeps-noted, over-counted}
 use Rattle.bus_visit.specs.laws.Faults.{ending-within, rises-same, rises-visit}
-use Rattle.bus_visit.proofs.TurnLemmas.{on-err, keeps-lack, keeps-stop, turned-over, turned-stop, ends-asleep, ends-again, readied-onward}
+use Rattle.bus_visit.proofs.TurnLemmas.{on-err, keeps-lack, keeps-stop, turned-over, turned-stop, ends-asleep, ends-again, readied-onward, turns-fail}
 use Rattle.bus_visit.proofs.TurnLemmas.{turning-more, turning-keeps, turning-holds, turning-rests, turning-open}
+use Rattle.bus_visit.proofs.FailureLemmas.{on-poller, if-poller-by}
 use Rattle.bus_visit.proofs.visiting.resume.Goals as goal
 
 pub loop-ending-init : goal.loop-ending-init
@@ -128,3 +129,13 @@ returns-then-not-branch-clause-keeps g c =
     keeps-then (part.Visit c.args.wire) _ _ _ c.loop-ending.invariant.keeps
     (keeps-noted c.args.wire c.converse.result _ _ _ c.converse.ensures.keeps c.converse.ensures.cause
     c.note_not_ready.ensures.keeps)
+
+pub returns-in_err-note_not_ready-in-Paused-clause-failed :
+    goal.returns-in_err-note_not_ready-in-Paused-clause-failed
+returns-in_err-note_not_ready-in-Paused-clause-failed g c =
+    on-poller _ c.from_residual-in_err-note_not_ready-in-Paused.result
+    c.in_err-note_not_ready-in-Paused.field-0.0 c.from_residual-in_err-note_not_ready-in-Paused.ensures.1
+    (if-poller-by _ _ c.in_err-note_not_ready-in-Paused.field-0.0
+    (turns-fail c.args.wire c.args.key c.in-Paused.dir _ _ _ _ c.args.reactor.now.core c.loop-ending.reactor.core
+    c.args.client.now c.loop-ending.client c.converse.new.client c.loop-ending.invariant.turning
+    (rw c.in-Paused.is at c.in_ok-ending.ensures.conversed)) c.in_err-note_not_ready-in-Paused.ensures.failed)

@@ -1,8 +1,9 @@
 use Rattle.std.proofs.Common.{ap}
 use Rattle.bus_visit.specs.Visited as turn_end
 use Rattle.bus_visit.proofs.TurnLemmas.{on-err}
-use Rattle.bus_visit.proofs.StayLemmas.{keeps-removed, kept-turns, kept-source, turns-source, stays-asleep, stays-ended}
+use Rattle.bus_visit.proofs.StayLemmas.{keeps-removed, kept-turns, kept-source, turns-source, stays-asleep, stays-ended, visit-unarmed, visit-undeleted}
 use Rattle.bus_visit.proofs.VisitFrames.{keeps-visit, ended-counted}
+use Rattle.bus_visit.proofs.FailureLemmas.{on-poller, if-poller-by, at-poller}
 use Rattle.bus_visit.proofs.visiting.visit.Goals as goal
 
 pub remove_io-requires : goal.remove_io-requires
@@ -57,3 +58,20 @@ returns-in_ok-ended_of-in-Ok-Some-clause-counted g c =
     ended-counted c.args.wire c.in-Ok-Some.ending c.in_ok-ended_of-in-Ok-Some.field-0 _ _ _
     (ap (λ e. e.ending) c.in_ok-ended_of-in-Ok-Some.ensures.value)
     (rw c.in-Ok-Some.field-0-is at c.in-Ok-Some.ensures.counted) c.remove_io.ensures.keeps
+
+pub returns-in_err-remove_io-in-Ok-Some-clause-failed : goal.returns-in_err-remove_io-in-Ok-Some-clause-failed
+returns-in_err-remove_io-in-Ok-Some-clause-failed g c =
+    on-poller _ c.from_residual.result c.in_err-remove_io-in-Ok-Some.field-0.0 c.from_residual.ensures.1
+    (at-poller _ c.in_err-remove_io-in-Ok-Some.field-0.0 (λ is.
+    visit-undeleted _ _ c.args.wire c.args.sleeper.key _ _ _ c.args.reactor.now.core c.resume.new.reactor.core
+    c.args.sleeper.client c.resume.new.client c.in-Ok-Some.ending
+    (rw c.in-Ok-Some.field-0-is at c.in-Ok-Some.ensures.resumed)
+    (rw is at c.in_err-remove_io-in-Ok-Some.ensures.told)))
+
+pub returns-in-Err-clause-failed : goal.returns-in-Err-clause-failed
+returns-in-Err-clause-failed g c =
+    if-poller-by _ _ c.in-Err.refusal (λ f.
+    visit-unarmed _ c.args.wire c.args.sleeper.key _ _ _ c.args.reactor.now.core c.resume.new.reactor.core
+    c.args.sleeper.client c.remove_io-in-Err.result c.requires.holds c.in-Err.ensures.refused.1.tags f
+    (rw c.in-Err.ensures.keeps.ample at c.remove_io-in-Err.ensures.memory) c.remove_io-in-Err.ensures.told)
+    c.in-Err.ensures.failed

@@ -2,7 +2,8 @@ use Rattle.std.proofs.Common.{refl, ap}
 use Rattle.bus_session.specs.Dialling.{conversation}
 use Rattle.bus_visit.specs.Dialled.{as_opened}
 use Rattle.bus_visit.proofs.TurnLemmas.{on-err}
-use Rattle.bus_visit.proofs.FirstVisit.{if-ok, refused-by, insert-keeps, inserted-holds, inserted-rests, inserted-keeps, inserted-tags, inserted-registers}
+use Rattle.bus_visit.proofs.FirstVisit.{if-ok, refused-by, insert-keeps, inserted-holds, inserted-rests, inserted-keeps, inserted-tags, inserted-registers, inserted-fails, insert-fails}
+use Rattle.bus_visit.proofs.FailureLemmas.{on-poller, on-poller-by}
 use Rattle.react_core.specs.Outer.{keeps-same, poller-in-visit}
 use Rattle.react_core.specs.Outer as part
 use Rattle.bus_visit.proofs.VisitFrames.{keeps-registered, slot-after}
@@ -65,3 +66,18 @@ returns-clause-keeps g c = keeps-registered c.args.wire _ _ _ c.insert_io.ensure
 
 pub returns-clause-counted : goal.returns-clause-counted
 returns-clause-counted g c = if-ok c.visit.result (λ slot counted. slot-after c.args.wire slot _ _ _ (poller-in-visit c.args.wire _ _ c.insert_io.ensures.keeps) counted) c.visit.ensures.counted
+
+pub returns-in_err-key-clause-failed : goal.returns-in_err-key-clause-failed
+returns-in_err-key-clause-failed g c =
+    on-poller _ c.from_residual-in_err-key.result c.in_err-key.field-0.0 c.from_residual-in_err-key.ensures.1
+    (insert-fails c.args.session.now c.args.wire (as_opened c.args.opened.now) _ c.in_err-key.field-0.0 _ _
+    c.args.reactor.now.core c.in_err-key.ensures.told)
+
+pub returns-clause-failed : goal.returns-clause-failed
+returns-clause-failed g c =
+    on-poller-by _ _ c.visit.result (λ fails.
+    inserted-fails c.args.reactor.now.core c.insert_io.new.self.core c.args.wire c.in_ok-key.key
+    c.in_ok-key.ensures.free (ap (λ r. r.core) c.in_ok-key.ensures.inserted) c.args.session.now
+    (as_opened c.args.opened.now) _ _ _ _ c.in_ok-client.client c.in_ok-client.ensures.stands
+    c.in_ok-client.ensures.written c.in_ok-key.ensures.told
+    (rw c.insert_io.ensures.keeps.ample at fails)) c.visit.ensures.failed
