@@ -26,7 +26,11 @@ use Rattle.bus_visit.specs.declared.visiting.Slot.TheVariants as slot
 use Rattle.bus_visit.specs.Counts.{waits_in}
 use Rattle.bus_peers.specs.inside.Due.{is_in, is_due, due_at}
 use Rattle.bus_peers.specs.inside.Rounds.{round_events}
-use Rattle.bus_visit.specs.Registry.{Held, held_at, reported_held, after_report_held}
+use Rattle.bus_visit.specs.Registry.{Held, held_at, reported_held, after_report_held, arming, waits as held_waits}
+use Rattle.bus_peers.proofs.MadeLemmas.{is_quiet_call}
+use Rattle.std.proofs.lemmas.List.Folds.{list_all-append}
+use Rattle.react_core.specs.declared.outside.Event.TheVariants as event
+use Rattle.std.proofs.Common.{if◌then◌else◌, ◌||◌}
 use Rattle.bus_peers.specs.inside.RoundEvents.{rearming_of}
 use Rattle.bus_peers.specs.inside.RoundEvents.{Round, round_told}
 use Rattle.bus_peers.specs.inside.Shows.{Shows}
@@ -58,7 +62,27 @@ none-rearming held (r ∷ reports) =
     waits_in-append (rearming_of (held_at held r.key) r) (round_events.rearming (after_report_held held r) reports)
     ∙ omega (arith, none-rearming_of (held_at held r.key) r, none-rearming (after_report_held held r) reports)
 
-one-wait : (r : Round) (second : Option ℕ) → r.second ≡ second → waits_in (round_told None r) ≡ 1
+quiet-arming : (h : Held) → list_all is_quiet_call (arming h) ≡ true
+quiet-arming h = go (held_waits h.read || held_waits h.write) where
+  go : (b : Bool) →
+      list_all is_quiet_call
+      (if b then event.Modify h.wire h.key (held_waits h.read) (held_waits h.write) true ∷ [] else []) ≡ true
+  go true = refl
+  go false = refl
+
+quiet-rearming_of : (o : Option Held) (r : Report) → list_all is_quiet_call (rearming_of o r) ≡ true
+quiet-rearming_of None r = refl
+quiet-rearming_of (Some h) r = quiet-arming (reported_held h r)
+
+pub quiet-rearming : (held : List Held) (reports : List Report) →
+    list_all is_quiet_call (round_events.rearming held reports) ≡ true
+quiet-rearming held [] = refl
+quiet-rearming held (r ∷ reports) =
+    list_all-append is_quiet_call (rearming_of (held_at held r.key) r)
+    (round_events.rearming (after_report_held held r) reports)
+    ∙ and_from _ _ (quiet-rearming_of (held_at held r.key) r) (quiet-rearming (after_report_held held r) reports)
+
+pub one-wait : (r : Round) (second : Option ℕ) → r.second ≡ second → waits_in (round_told None r) ≡ 1
 one-wait r None e = rw e refl
 one-wait r (Some moment) e = rw e refl
 
@@ -68,10 +92,10 @@ round-waits held r = waits_in-append (round_told None r) (round_events.rearming 
 -- ---- the round as a piece
 
 -- the piece that a round is: no deadline bounds its wait
-abbrev piece_of : Round → List Event → pieces.Round
+abbrev pub piece_of : Round → List Event → pieces.Round
 piece_of r rearmed = record { first = r.first; timeout = None; answer = r.answer; second = r.second; rearmed = rearmed }
 
-told_by : (r : Round) (rearmed : List Event) (second : Option ℕ) → r.second ≡ second → pieces.events_of (round (piece_of r rearmed)) ≡ round_told None r ++ rearmed
+pub told_by : (r : Round) (rearmed : List Event) (second : Option ℕ) → r.second ≡ second → pieces.events_of (round (piece_of r rearmed)) ≡ round_told None r ++ rearmed
 told_by r rearmed None is = rw is refl
 told_by r rearmed (Some moment) is = rw is refl
 
@@ -96,7 +120,7 @@ first-wire [] some = absurd (some refl)
 first-wire (s ∷ sources) some = (s.1.wire, or_left (s.1.wire == s.1.wire) (has_wire s.1.wire (tags sources)) (eq-eqb s.1.wire s.1.wire refl))
 
 -- where a source is left, a session sleeps
-some-sleeper : (sessions : List Session) (slots : List Slot) (past : Pieces) (core : Core) → AllBuilt sessions →
+pub some-sleeper : (sessions : List Session) (slots : List Slot) (past : Pieces) (core : Core) → AllBuilt sessions →
     length slots ≡ length sessions → Owned slots (tags core.sources) → Shows past (map shown core.sources) →
     AllStand 0 [] (take (length slots) sessions) slots past → core.sources ≢ [] → sleepers sessions past ≢ []
 some-sleeper sessions slots past core built len owned shows stands some =
@@ -178,7 +202,7 @@ round-more sessions rounds n begin before r0 r1 old new slots woken r past built
       },
     )
 
-round-from : (sessions : List Session) (rounds n : ℕ) (begin : Core) (before r0 r1 : Option (List Event)) (old new : Core) (slots : List Slot) (woken : List ℕ) (r : Round) → AllBuilt sessions →
+pub round-from : (sessions : List Session) (rounds n : ℕ) (begin : Core) (before r0 r1 : Option (List Event)) (old new : Core) (slots : List Slot) (woken : List ℕ) (r : Round) → AllBuilt sessions →
     length slots ≡ length sessions → Owned slots (tags old.sources) → n < rounds → old.sources ≢ [] → Rounded r0 r1 old new woken r → CallStandsAfter sessions rounds [] n begin before r0 old slots →
     CallStandsAfter sessions rounds woken (n + 1) begin before r1 new slots
 round-from sessions rounds n begin before r0 r1 old new slots woken r built len owned left some x (past, count, g) =
@@ -242,6 +266,7 @@ halted sessions rounds n begin before after core slots built len owned left some
   past,
   record {
     going = g;
+    len = len;
     rest = all-rest sessions slots past (map shown core.sources) len built g.shows g.stands;
     sleeper = some-sleeper sessions slots past core built len owned g.shows g.stands some;
     left = omega (arith, count, left);

@@ -1,12 +1,11 @@
 -- The sources at the end: each session's is taken out in turn, and what that tells is the closing.
 use Rattle.std.proofs.Common.{◌≡◌, ◌≢◌, ◌≤◌, ◌<◌, ℕ, ◌+◌, zero, suc, Bool, true, false, nat_lt, ◌==◌, List, [], ◌∷◌}
-use Rattle.std.proofs.Common.{◌++◌, length, map, Option, Some, refl, sym, ◌∙◌, ap, subst, arith, append_assoc}
+use Rattle.std.proofs.Common.{◌++◌, length, map, Option, Some, None, inr, refl, sym, ◌∙◌, ap, subst, arith, append_assoc}
 use Rattle.std.proofs.Common.{slice_index_or}
 use Rattle.std.specs.Prelude.{Result, Ok, Err, OnOk}
 use Rattle.std.specs.Result.{result_and}
-use Rattle.std.specs.List.{list_all}
+use Rattle.std.specs.List.{list_all, list_any}
 use Rattle.std.proofs.lemmas.List.{append-nil}
-use Rattle.std.proofs.lemmas.List.Folds.{list_all-append}
 use Rattle.std.proofs.lemmas.Bool.{and_from, and_parts, eq-eqb, ne_eqb, eqb-true, both_ways, ltb-true, ltb-false}
 use Rattle.std.proofs.lemmas.Option.{same_Some, slice_get_read}
 use Rattle.react_core.specs.declared.outside.Event.{Event}
@@ -14,7 +13,10 @@ use Rattle.react_core.specs.declared.outside.Event.TheVariants as event
 use Rattle.react_core.specs.Places.{Source}
 use Rattle.react_core.specs.Core.{Core, ReactorState}
 use Rattle.react_core.specs.Sources.{source_of}
-use Rattle.react_core.specs.Told.{told, told-told}
+use Rattle.react_core.specs.declared.reactor.ReactError.{ReactError}
+use Rattle.react_core.specs.declared.reactor.ReactError.TheVariants as react_err
+use Rattle.react_core.specs.Causes.{RemoveTold, OnReactLack}
+use Rattle.react_core.specs.Told.{told, told-told, told-nothing}
 use Rattle.bus_session.specs.declared.ended.Ended.{Ended}
 use Rattle.bus_visit.specs.declared.visiting.Slot.{Slot}
 use Rattle.bus_visit.specs.declared.visiting.Slot.TheVariants as slot
@@ -26,7 +28,10 @@ use Rattle.bus_visit.specs.Shown.{shown, Tags, tags, tag_at, without_tag, has_wi
 use Rattle.bus_peers.specs.inside.SlotFaults.{VisitsCounted}
 use Rattle.bus_peers.specs.inside.Slots.{Owns, AllOwn, Owned}
 use Rattle.bus_peers.specs.inside.Rounds.{IsHeld, without_slot, removal_of, removal_told, is_kept, EndsIn, AllEnd}
-use Rattle.bus_peers.specs.Counts.{is_delete}
+use Rattle.bus_peers.specs.Headline.{open_error}
+use Rattle.bus_peers.specs.inside.Failures.{IfPoller, OnPoller, Removes}
+use Rattle.bus_record.specs.Failing.{Made, is_failed}
+use Rattle.bus_peers.proofs.MadeLemmas.{made-append, made-one, failed-before, failed-after}
 use Rattle.bus_visit.specs.laws.Tags.{tags-without, tag-has_source, tag-source, tag-has_wire, has_wire-without, no_wire-without, tag_at-without, single-without, below-without, below-none, tags-none}
 use Rattle.bus_peers.proofs.SlotLemmas.{owns-at, below-from, no_wire-above}
 
@@ -182,10 +187,64 @@ told-slot {T} answer removed' both i r0 r1 r2 held gone is same before after =
     let P : Result T OpenError → Type 0 = λ r. OnOk r (r2 ≡ told r0 (closing (i + 1) 0 held)) in
     subst P (sym is) (told_slot answer removed' i r0 r1 r2 held gone same before after)
 
-pub removals-more : (r0 r1 r2 : Option (List Event)) → (a : List Event) × (r1 ≡ told r0 a) × (list_all is_delete a ≡ true) → (b : List Event) × (r2 ≡ told r1 b) × (list_all is_delete b ≡ true) →
-    (m : List Event) × (r2 ≡ told r0 m) × (list_all is_delete m ≡ true)
-removals-more r0 r1 r2 (a, first, all) (b, second, all') =
-    (a ++ b, second ∙ (ap (λ r. told r b) first ∙ told-told r0 a b), list_all-append is_delete a b ∙ and_from (list_all is_delete a) (list_all is_delete b) all all')
+-- the answer of a call behind a `?`
+abbrev pub AnswersAs : {T : Type 0} → Result T ReactError → Result (Unit {0}) OpenError → Type 0
+AnswersAs (Ok v) answer = answer ≡ Ok tt
+AnswersAs (Err e) answer = answer ≡ Err (open_error e)
+
+-- removals so far, and one more
+pub removes-more : (ample ample' : Bool) (answer removed' both : Result (Unit {0}) OpenError) (i : ℕ)
+    (r0 r1 r2 : Option (List Event)) (held : List Held) (gone : List Event) → ample' ≡ ample →
+    both ≡ result_and answer removed' → gone ≡ removals_of held i → Removes ample (closing i 0 held) answer r0 r1 →
+    Removes ample' gone removed' r1 r2 → Removes ample (closing (i + 1) 0 held) both r0 r2
+removes-more ample ample' answer removed' both i r0 r1 r2 held gone known is same (a, first, made, failed) (b, second, made', failed') =
+    let M : List Event → Type 0 = λ calls. Made ample calls (a ++ b) in
+    let B : Bool → Type 0 = λ x. Made x gone b in
+    let N : List Event → Type 0 = λ calls. Made ample calls b in (
+      a ++ b,
+      second ∙ (ap (λ r. told r b) first ∙ told-told r0 a b),
+      subst M (sym (closing-next i held))
+          (made-append ample (closing i 0 held) (removals_of held i) a b made (subst N same (subst B known made'))),
+      subst (λ r. OnPoller r (list_any is_failed (a ++ b) ≡ true)) (sym is) (either answer removed' failed failed'),
+    )
+  where
+    keep : (e : OpenError) → IfPoller e (list_any is_failed a ≡ true) → IfPoller e (list_any is_failed (a ++ b) ≡ true)
+    keep open_err.Poller f = failed-before a b f
+    keep open_err.OutOfMemory f = tt
+    keep (open_err.Exhausted c value) f = tt
+
+    either : (answer removed' : Result (Unit {0}) OpenError) → OnPoller answer (list_any is_failed a ≡ true) →
+        OnPoller removed' (list_any is_failed b ≡ true) →
+        OnPoller (result_and answer removed') (list_any is_failed (a ++ b) ≡ true)
+    either (Ok u) (Ok v) f f' = tt
+    either (Ok u) (Err open_err.Poller) f f' = failed-after a b f'
+    either (Ok u) (Err open_err.OutOfMemory) f f' = tt
+    either (Ok u) (Err (open_err.Exhausted c value)) f f' = tt
+    either (Err e) removed' f f' = keep e f
+
+pub removes-end : (ample : Bool) (answer : Result (Unit {0}) OpenError) (i : ℕ) (items slots : List Slot)
+    (r0 r1 : Option (List Event)) (held : List Held) → items ≡ slots → i ≤ length items → length items ≤ i →
+    Removes ample (closing i 0 held) answer r0 r1 → Removes ample (closing (length slots) 0 held) answer r0 r1
+removes-end ample answer i items slots r0 r1 held same within le so =
+    let place : i ≡ length slots = omega (arith, within, le, ap length same) in
+    let P : ℕ → Type 0 = λ k. Removes ample (closing k 0 held) answer r0 r1 in
+    subst P place so
+
+-- what the removal of a slot's source told
+pub removes-slot : {T : Type 0} (ample : Bool) (key : ℕ) (found : Option Source) (r : Result T ReactError)
+    (before after : Option (List Event)) → OnReactLack r (ample ≡ false) → RemoveTold found key r before after →
+    (answer : Result (Unit {0}) OpenError) → AnswersAs r answer → Removes ample (removal_of found key) answer before after
+removes-slot ample key None r before after lack gone answer so = absurd gone
+removes-slot ample key (Some s) (Ok v) before after lack gone answer so =
+    let O : Result (Unit {0}) OpenError → Type 0 = λ x. OnPoller x (false ≡ true) in
+    (event.Delete s.wire key true ∷ [], gone, made-one ample _ _ refl, subst O (sym so) tt)
+removes-slot ample key (Some s) (Err react_err.Poller) before after lack gone answer so =
+    let O : Result (Unit {0}) OpenError → Type 0 = λ x. OnPoller x (true ≡ true) in
+    (event.Delete s.wire key false ∷ [], gone, made-one ample _ _ refl, subst O (sym so) refl)
+removes-slot ample key (Some s) (Err react_err.OutOfMemory) before after lack gone answer so =
+    let O : Result (Unit {0}) OpenError → Type 0 = λ x. OnPoller x (false ≡ true) in
+    ([], gone ∙ told-nothing before, inr (lack, refl), subst O (sym so) tt)
+removes-slot ample key (Some s) (Err (react_err.Exhausted c value)) before after lack gone answer so = absurd gone
 
 -- counts don't fall
 no_less : {T : Type 0} (answer : Result T OpenError) (before now : ℕ) → VisitsCounted answer before now → before ≤ now

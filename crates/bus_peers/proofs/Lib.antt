@@ -10,6 +10,7 @@ pub mod StayVisits
 pub mod OtherWires
 pub mod WholeVisits
 pub mod HeldLists
+pub mod MadeLemmas
 pub mod CallSources
 pub mod VisitShows
 pub mod StayShows
@@ -17,8 +18,10 @@ pub mod VisitsInRecord
 pub mod Standing
 pub mod SlotLemmas
 pub mod ClosingLemmas
+pub mod LeftSources
 pub mod Sleepers
 pub mod CallVisits
+pub mod FailingVisits
 pub mod ReportSides
 pub mod RearmingMoves
 pub mod RisingWires
@@ -27,4 +30,5 @@ pub mod RoundShows
 pub mod RoundDue
 pub mod WholeRounds
 pub mod CallRounds
+pub mod FailingRounds
 pub mod OpenLemmas

@@ -1,5 +1,5 @@
 -- How a call ends: after its rounds and its removals, what it answers and what was told.
-use Rattle.std.proofs.Common.{◌≡◌, ◌<◌, ◌^◌, ℕ, ◌+◌, true, false, List, [], ◌∷◌, ◌++◌, length, map, take, Option, Result, Ok, Err, IsErrAnd, refl, sym, ◌∙◌, ap, subst, arith}
+use Rattle.std.proofs.Common.{◌≡◌, ◌≤◌, ◌<◌, ◌^◌, ℕ, ◌+◌, Bool, true, List, [], ◌∷◌, ◌++◌, length, map, take, Option, Result, Ok, Err, IsErrAnd, refl, sym, ◌∙◌, ap, subst, arith, append_assoc}
 use Rattle.std.specs.Prelude.{IfOk, OnErr}
 use Rattle.std.specs.List.{list_all}
 use Rattle.std.proofs.lemmas.Bool.{both_ways, and_parts, and_from}
@@ -14,10 +14,14 @@ use Rattle.bus_visit.specs.declared.visiting.Slot.TheVariants as slot
 use Rattle.bus_peers.specs.declared.open.OpenError.{OpenError}
 use Rattle.bus_peers.specs.declared.open.OpenError.TheVariants as open_err
 use Rattle.bus_record.specs.Pieces as pieces
-use Rattle.bus_record.specs.Pieces.{Pieces}
+use Rattle.bus_record.specs.Pieces.{Pieces, ◌▸◌, round}
+use Rattle.bus_record.specs.Settled as settled
+use Rattle.bus_record.specs.Failing as failing
+use Rattle.bus_record.specs.Failing.{Made}
+use Rattle.bus_peers.specs.inside.Failures.{IfPoller, CallFails, in_visit, in_round, Removes}
+use Rattle.bus_peers.proofs.LeftSources.{closing-but, closing-all, closing-waits}
 use Rattle.bus_record.specs.Headline.{IsEnding, Each}
-use Rattle.bus_visit.specs.Counts.{is_wait, waits_in}
-use Rattle.bus_peers.specs.Counts.{is_delete}
+use Rattle.bus_visit.specs.Counts.{waits_in}
 use Rattle.bus_peers.specs.inside.Closing.{closing}
 use Rattle.bus_visit.specs.Shown.{shown, tags}
 use Rattle.bus_peers.specs.Headline.{Opened, RefusedWith, OpenCounted, Completes}
@@ -27,19 +31,6 @@ use Rattle.bus_peers.specs.inside.Slots.{Owned, AllBuilt, Stands, AllStand, Call
 use Rattle.bus_visit.specs.laws.Records.{waits_in-append}
 use Rattle.bus_peers.proofs.Standing.{whole}
 use Rattle.bus_peers.proofs.Sleepers.{closing-so}
-
--- ---- removals
-
-delete-wait : (e : Event) → is_delete e ≡ true → is_wait e ≡ false
-delete-wait (event.Delete wire key ok) is = refl
-delete-wait e is = absurd (both_ways (is_delete e) refl is)
-
--- no round is among them
-pub deletes-waits : (gone : List Event) → list_all is_delete gone ≡ true → waits_in gone ≡ 0
-deletes-waits [] all = refl
-deletes-waits (e ∷ gone) all =
-    let h : (is_delete e ≡ true) × (list_all is_delete gone ≡ true) = and_parts (is_delete e) (list_all is_delete gone) all in
-    rw (delete-wait e h.0) (deletes-waits gone h.1)
 
 -- ---- the sessions' endings
 
@@ -77,29 +68,19 @@ each-ending n (s ∷ sessions) (c ∷ slots) [] past all ends = absurd ends
 -- ---- what a call answers
 
 -- what was told, with what the answer promises of it
-abbrev pub Answers : {T : Type 0} → (T → List Ended) → Result T OpenError → List Session → ℕ → Option (List Event) → Option (List Event) → Core → Core → Type 0
-Answers items result sessions rounds r0 r1 old new =
-    (r : List Event) × (r1 ≡ told r0 r) × IfOk result (λ v. Opened sessions rounds old new (items v) r) × RefusedWith sessions rounds old new result r
-
-answers-err : {T : Type 0} (items : T → List Ended) (result : Result T OpenError) (e : OpenError)
-    (sessions : List Session) (rounds : ℕ) (r0 r1 : Option (List Event)) (old new : Core) (r : List Event) →
-    IsErrAnd result (λ x. x ≡ e) → r1 ≡ told r0 r → RefusedWith {T = T} sessions rounds old new (Err e) r → Answers items result sessions rounds r0 r1 old new
-answers-err items (Ok v) e sessions rounds r0 r1 old new r is gained refused = absurd is
-answers-err {T} items (Err x) e sessions rounds r0 r1 old new r is gained refused =
-    let R : OpenError → Type 0 = λ y. RefusedWith {T = T} sessions rounds old new (Err y) r in
-    (r, gained, tt, subst R (sym is) refused)
-
--- there was no room for the slots
-pub answers-none : {T : Type 0} (items : T → List Ended) (result : Result T OpenError) (sessions : List Session)
-    (rounds : ℕ) (r : Option (List Event)) (old : Core) → IsErrAnd result (λ x. x ≡ open_err.OutOfMemory) →
-    Answers items result sessions rounds r r old old
-answers-none items result sessions rounds r old is = answers-err items result open_err.OutOfMemory sessions rounds r r old old [] is (told-nothing r) tt
+abbrev pub Answers : {T : Type 0} → (T → List Ended) → Result T OpenError → List Session → ℕ → Bool →
+    Option (List Event) → Option (List Event) → Core → Core → Type 0
+Answers items result sessions rounds ample r0 r1 old new =
+    (r : List Event) × (r1 ≡ told r0 r) × IfOk result (λ v. Opened sessions rounds old new (items v) r)
+    × RefusedWith sessions rounds ample old new result r
 
 after-gone : (r0 r1 r2 : Option (List Event)) (a b : List Event) → r1 ≡ told r0 a → r2 ≡ told r1 b → r2 ≡ told r0 (a ++ b)
 after-gone r0 r1 r2 a b x y = y ∙ (ap (λ r. told r b) x ∙ told-told r0 a b)
 
-ticker-gone : (old now new : ℕ) (a gone : List Event) → now ≡ old + waits_in a → new ≡ now → list_all is_delete gone ≡ true → new ≡ old + waits_in (a ++ gone)
-ticker-gone old now new a gone is same all = omega (arith, waits_in-append a gone, deletes-waits gone all, is, same)
+-- no round is among the removals
+ticker-gone : (old now new : ℕ) (a gone : List Event) → now ≡ old + waits_in a → new ≡ now → waits_in gone ≡ 0 →
+    new ≡ old + waits_in (a ++ gone)
+ticker-gone old now new a gone is same none = omega (arith, waits_in-append a gone, none, is, same)
 
 -- the core without its sources
 abbrev pub emptied : ReactorState → ReactorState
@@ -110,100 +91,185 @@ ticks : {sessions : List Session} {rounds : ℕ} {pending : List ℕ} {begin : C
     CallStands sessions rounds pending begin r0 r1 core slots past → core.ticker ≡ begin.ticker + waits_in (pieces.told past)
 ticks {begin = begin} g = g.ticker ∙ ap (λ n. begin.ticker + n) (sym g.counted)
 
--- the first visits or the rounds were refused
-pub answers-refused : {T : Type 0} (items : T → List Ended) (result : Result T OpenError) (e : OpenError)
-    (sessions : List Session) (rounds : ℕ) (r0 r1 r2 : Option (List Event)) (old : Core) (mid new : ReactorState)
-    (slots : List Slot) →
-    IsErrAnd result (λ x. x ≡ e) → Halts {T = Unit {0}} (Err e) sessions rounds old r0 r1 mid.core slots → RefusedAt e r0 r1 old mid.core → new ≡ emptied mid →
-    (gone : List Event) × (r2 ≡ told r1 gone) × (list_all is_delete gone ≡ true) → Answers items result sessions rounds r0 r2 old new.core
-answers-refused items result open_err.OutOfMemory sessions rounds r0 r1 r2 old mid new slots is halts (closed, (more, grown)) same (gone, gained, all) =
-    answers-err items result open_err.OutOfMemory sessions rounds r0 r2 old new.core (more ++ gone) is (after-gone r0 r1 r2 more gone grown gained) tt
-answers-refused items result open_err.Poller sessions rounds r0 r1 r2 old mid new slots is halts (more, x) same (gone, gained, all) =
-    answers-err items result open_err.Poller sessions rounds r0 r2 old new.core (more ++ gone) is (after-gone r0 r1 r2 more gone x.gained gained)
-    (ticker-gone old.ticker mid.core.ticker new.core.ticker more gone x.ticker (ap (λ y. y.core.ticker) same) all)
-answers-refused items result (open_err.Exhausted c value) sessions rounds r0 r1 r2 old mid new slots is (past, x) (of, at, last, told') same (gone, gained, all) =
-    let g : CallStands sessions rounds [] old r0 r1 mid.core slots past = x.going in
-    answers-err items result (open_err.Exhausted c value) sessions rounds r0 r2 old new.core (pieces.told past ++ gone) is (after-gone r0 r1 r2 (pieces.told past) gone g.gained gained) (
-      of,
-      at,
-      ticker-gone old.ticker mid.core.ticker new.core.ticker (pieces.told past) gone (ticks g) (ap (λ y. y.core.ticker) same) all,
-      record {
-        pieces = past;
-        removals = gone;
-        run = g.run;
-        rest = x.rest;
-        sleeper = x.sleeper;
-        left = x.left;
-        last = sym g.ticker ∙ last;
-        deletes = all;
-        whole = refl;
-      },
-    )
-
--- a removal was refused
-pub answers-unremoved : {T : Type 0} (items : T → List Ended) (result : Result T OpenError) (e : OpenError)
-    (sessions : List Session) (rounds : ℕ) (r0 r1 r2 : Option (List Event)) (old : Core) (mid new : ReactorState)
-    (slots : List Slot) (n0 n1 : ℕ) →
-    IsErrAnd result (λ x. x ≡ e) → (past : Pieces) × CallSettled sessions rounds old r0 r1 mid.core slots past → VisitsCounted {T = Unit {0}} (Err e) n0 n1 → new ≡ emptied mid →
-    (gone : List Event) × (r2 ≡ told r1 gone) × (list_all is_delete gone ≡ true) → Answers items result sessions rounds r0 r2 old new.core
-answers-unremoved items result open_err.OutOfMemory sessions rounds r0 r1 r2 old mid new slots n0 n1 is (past, x) counted same (gone, gained, all) =
-    answers-err items result open_err.OutOfMemory sessions rounds r0 r2 old new.core (pieces.told past ++ gone) is (after-gone r0 r1 r2 (pieces.told past) gone x.going.gained gained) tt
-answers-unremoved items result open_err.Poller sessions rounds r0 r1 r2 old mid new slots n0 n1 is (past, x) counted same (gone, gained, all) =
-    answers-err items result open_err.Poller sessions rounds r0 r2 old new.core (pieces.told past ++ gone) is (after-gone r0 r1 r2 (pieces.told past) gone x.going.gained gained)
-    (ticker-gone old.ticker mid.core.ticker new.core.ticker (pieces.told past) gone (ticks x.going) (ap (λ y. y.core.ticker) same) all)
-answers-unremoved items result (open_err.Exhausted c value) sessions rounds r0 r1 r2 old mid new slots n0 n1 is rested counted same removals = absurd counted
-
-opened-all : (sessions : List Session) (rounds : ℕ) (r0 r1 : Option (List Event)) (old : Core) (mid new : ReactorState) (slots : List Slot) (endeds : List Ended) (past : Pieces) → AllBuilt sessions →
-    length slots ≡ length sessions → Owned slots (tags mid.core.sources) → CallSettled sessions rounds old r0 r1 mid.core slots past → new ≡ emptied mid → AllEnd 0 slots endeds →
-    Opened sessions rounds old new.core endeds (pieces.told past ++ closing (length slots) 0 (map shown mid.core.sources))
-opened-all sessions rounds r0 r1 old mid new slots endeds past built len owned x same ends =
-    let g : CallStands sessions rounds [] old r0 r1 mid.core slots past = x.going in
+-- the removals of the slots are those of the sleepers
+closing-rest : (sessions : List Session) (slots : List Slot) (past : Pieces) (rounds : ℕ) (r0 r1 : Option (List Event))
+    (old core : Core) → AllBuilt sessions → length slots ≡ length sessions → Owned slots (tags core.sources) →
+    CallStands sessions rounds [] old r0 r1 core slots past →
+    closing (length slots) 0 (map shown core.sources) ≡ settled.closing sessions past
+closing-rest sessions slots past rounds r0 r1 old core built len owned g =
     let S : List Session → Type 0 = λ y. AllStand 0 [] y slots past in
-    let stands : AllStand 0 [] sessions slots past = subst S (whole sessions slots len) g.stands in
-    record {
-      pieces = past;
-      headline = record {
-        each = each-ending 0 sessions slots endeds past stands ends;
-        settled = record {
+    ap (λ n. closing n 0 (map shown core.sources)) len
+    ∙ closing-so 0 sessions slots past core.sources built g.shows (subst S (whole sessions slots len) g.stands) owned.each
+    owned.single
+
+module _ {T : Type 0} (items : T → List Ended) (sessions : List Session) (rounds : ℕ) (ample : Bool)
+    (r0 r1 r2 : Option (List Event)) (old : Core) (mid new : ReactorState) (slots : List Slot)
+    (same : new ≡ emptied mid) where
+  abbrev gone_calls : List Event
+  gone_calls = closing (length slots) 0 (map shown mid.core.sources)
+
+  answers-err : (result : Result T OpenError) (e : OpenError) (r : List Event) → IsErrAnd result (λ x. x ≡ e) →
+      r2 ≡ told r0 r → RefusedWith {T = T} sessions rounds ample old new.core (Err e) r →
+      Answers items result sessions rounds ample r0 r2 old new.core
+  answers-err (Ok v) e r is gained refused = absurd is
+  answers-err (Err x) e r is gained refused =
+      let R : OpenError → Type 0 = λ y. RefusedWith {T = T} sessions rounds ample old new.core (Err y) r in
+      (r, gained, tt, subst R (sym is) refused)
+
+  gone-ticker : (a gone : List Event) → mid.core.ticker ≡ old.ticker + waits_in a → waits_in gone ≡ 0 →
+      new.core.ticker ≡ old.ticker + waits_in (a ++ gone)
+  gone-ticker a gone is none =
+      ticker-gone old.ticker mid.core.ticker new.core.ticker a gone is (ap (λ y. y.core.ticker) same) none
+
+  -- a call of the poller failed in a visit or a round
+  refused-fails : (gone : List Event) → Owned slots (tags mid.core.sources) → length slots ≤ length sessions →
+      CallFails sessions rounds ample old r0 r1 mid.core → r2 ≡ told r1 gone → Made ample gone_calls gone →
+      (r : List Event) × (r2 ≡ told r0 r) × RefusedWith {T = T} sessions rounds ample old new.core (Err open_err.Poller) r
+  refused-fails gone owned within (in_visit past wire cut fails left since) gained made =
+      let M : List Event → Type 0 = λ calls. Made ample calls gone in
+      let none : waits_in gone ≡ 0 = closing-waits ample (length slots) (map shown mid.core.sources) gone made in
+      let whole_so : (pieces.told past ++ cut) ++ gone ≡ pieces.told past ++ (cut ++ gone) =
+      append_assoc (pieces.told past) cut gone in (
+        (pieces.told past ++ cut) ++ gone,
+        after-gone r0 r1 r2 (pieces.told past ++ cut) gone since.gained gained,
+        (
+          gone-ticker (pieces.told past ++ cut) gone since.ticker none,
+          failing.in_visit past wire cut gone fails
+              (subst M (closing-but sessions slots wire past mid.core owned within left) made) whole_so,
+        ),
+      )
+  refused-fails gone owned within (in_round past r fails left since) gained made =
+      let M : List Event → Type 0 = λ calls. Made ample calls gone in
+      let none : waits_in gone ≡ 0 = closing-waits ample (length slots) (map shown mid.core.sources) gone made in (
+        pieces.told (past ▸ round r) ++ gone,
+        after-gone r0 r1 r2 (pieces.told (past ▸ round r)) gone since.gained gained,
+        (
+          gone-ticker (pieces.told (past ▸ round r)) gone since.ticker none,
+          failing.in_round past r gone fails
+              (subst M (closing-all sessions slots past mid.core owned within left) made) refl,
+        ),
+      )
+
+  -- the first visits or the rounds were refused
+  pub answers-refused : (result : Result T OpenError) (e : OpenError) (removed : Result (Unit {0}) OpenError) →
+      IsErrAnd result (λ x. x ≡ e) → AllBuilt sessions → Owned slots (tags mid.core.sources) →
+      length slots ≤ length sessions → Halts {T = Unit {0}} (Err e) sessions rounds old r0 r1 mid.core slots →
+      RefusedAt e r0 r1 old mid.core → IfPoller e (CallFails sessions rounds ample old r0 r1 mid.core) →
+      Removes ample gone_calls removed r1 r2 → Answers items result sessions rounds ample r0 r2 old new.core
+  answers-refused result open_err.OutOfMemory removed is built owned within halts (closed, (more, grown)) fails (gone, gained, made, failed) =
+      answers-err result open_err.OutOfMemory (more ++ gone) is (after-gone r0 r1 r2 more gone grown gained) tt
+  answers-refused result open_err.Poller removed is built owned within halts refused fails (gone, gained, made, failed) =
+      let f = refused-fails gone owned within fails gained made in
+      answers-err result open_err.Poller f.0 is f.1 f.2
+  answers-refused result (open_err.Exhausted c value) removed is built owned within (past, x) (of, at, last, told_so) fails (gone, gained, made, failed) =
+      let g : CallStands sessions rounds [] old r0 r1 mid.core slots past = x.going in
+      let none : waits_in gone ≡ 0 = closing-waits ample (length slots) (map shown mid.core.sources) gone made in
+      let M : List Event → Type 0 = λ calls. Made ample calls gone in
+      answers-err result (open_err.Exhausted c value) (pieces.told past ++ gone) is
+      (after-gone r0 r1 r2 (pieces.told past) gone g.gained gained) (
+        of,
+        at,
+        gone-ticker (pieces.told past) gone (ticks g) none,
+        record {
+          pieces = past;
+          removals = gone;
           run = g.run;
           rest = x.rest;
-          spent = x.spent;
-          whole = ap (λ n. pieces.told past ++ closing n 0 (map shown mid.core.sources)) len
-              ∙ ap (λ gone. pieces.told past ++ gone) (closing-so 0 sessions slots past mid.core.sources built g.shows stands owned.each owned.single);
-        };
-      };
-      interests = ap (λ y. y.core.begun) same ∙ g.begun;
-      rounds_begun = ap (λ y. y.core.ticker) same ∙ g.ticker;
-      timers_made = ap (λ y. y.core.made) same ∙ g.made;
-    }
+          sleeper = x.sleeper;
+          left = x.left;
+          last = sym g.ticker ∙ last;
+          made = subst M (closing-rest sessions slots past rounds r0 r1 old mid.core built x.len owned g) made;
+          whole = refl;
+        },
+      )
 
--- all was done, unless there was no room for the endings
-pub answers-opened : {T : Type 0} (items : T → List Ended) (result : Result T OpenError) (sessions : List Session)
-    (rounds : ℕ) (r0 r1 r2 : Option (List Event)) (old : Core) (mid new : ReactorState) (slots : List Slot) →
-    AllBuilt sessions →
-    length slots ≡ length sessions → Owned slots (tags mid.core.sources) →
-    (past : Pieces) × CallSettled sessions rounds old r0 r1 mid.core slots past → new ≡ emptied mid → r2 ≡ told r1 (closing (length slots) 0 (map shown mid.core.sources)) →
-    IfOk result (λ v. AllEnd 0 slots (items v)) → OnErr result (result ≡ Err open_err.OutOfMemory) → Answers items result sessions rounds r0 r2 old new.core
-answers-opened items (Ok v) sessions rounds r0 r1 r2 old mid new slots built len owned (past, x) same gained ends err =
-    let gone : List Event = closing (length slots) 0 (map shown mid.core.sources) in (
-      pieces.told past ++ gone,
-      after-gone r0 r1 r2 (pieces.told past) gone x.going.gained gained,
-      opened-all sessions rounds r0 r1 old mid new slots (items v) past built len owned x same ends,
-      tt,
-    )
-answers-opened {T} items (Err e) sessions rounds r0 r1 r2 old mid new slots built len owned (past, x) same gained ends err =
-    let gone : List Event = closing (length slots) 0 (map shown mid.core.sources) in
-    let R : Result T OpenError → Type 0 = λ y. RefusedWith sessions rounds old new.core y (pieces.told past ++ gone) in
-    (pieces.told past ++ gone, after-gone r0 r1 r2 (pieces.told past) gone x.going.gained gained, tt, subst R (sym err) tt)
+  -- a removal was refused
+  pub answers-unremoved : (result : Result T OpenError) (e : OpenError) (n0 n1 : ℕ) → IsErrAnd result (λ x. x ≡ e) →
+      AllBuilt sessions → length slots ≡ length sessions → Owned slots (tags mid.core.sources) →
+      (past : Pieces) × CallSettled sessions rounds old r0 r1 mid.core slots past →
+      VisitsCounted {T = Unit {0}} (Err e) n0 n1 → Removes {T = Unit {0}} ample gone_calls (Err e) r1 r2 →
+      Answers items result sessions rounds ample r0 r2 old new.core
+  answers-unremoved result open_err.OutOfMemory n0 n1 is built len owned (past, x) counted (gone, gained, made, failed) =
+      answers-err result open_err.OutOfMemory (pieces.told past ++ gone) is
+      (after-gone r0 r1 r2 (pieces.told past) gone x.going.gained gained) tt
+  answers-unremoved result open_err.Poller n0 n1 is built len owned (past, x) counted (gone, gained, made, failed) =
+      let none : waits_in gone ≡ 0 = closing-waits ample (length slots) (map shown mid.core.sources) gone made in
+      let M : List Event → Type 0 = λ calls. Made ample calls gone in
+      answers-err result open_err.Poller (pieces.told past ++ gone) is
+      (after-gone r0 r1 r2 (pieces.told past) gone x.going.gained gained) (
+        gone-ticker (pieces.told past) gone (ticks x.going) none,
+        failing.at_end past gone (record {
+          run = x.going.run;
+          rest = x.rest;
+          spent = x.spent;
+          made = subst M (closing-rest sessions slots past rounds r0 r1 old mid.core built len owned x.going) made;
+          failed = failed;
+        }) refl,
+      )
+  answers-unremoved result (open_err.Exhausted c value) n0 n1 is built len owned rested counted removals = absurd counted
+
+  opened-all : (endeds : List Ended) (past : Pieces) → AllBuilt sessions → length slots ≡ length sessions →
+      Owned slots (tags mid.core.sources) → CallSettled sessions rounds old r0 r1 mid.core slots past →
+      AllEnd 0 slots endeds → Opened sessions rounds old new.core endeds (pieces.told past ++ gone_calls)
+  opened-all endeds past built len owned x ends =
+      let g : CallStands sessions rounds [] old r0 r1 mid.core slots past = x.going in
+      let S : List Session → Type 0 = λ y. AllStand 0 [] y slots past in
+      let stands : AllStand 0 [] sessions slots past = subst S (whole sessions slots len) g.stands in
+      record {
+        pieces = past;
+        headline = record {
+          each = each-ending 0 sessions slots endeds past stands ends;
+          settled = record {
+            run = g.run;
+            rest = x.rest;
+            spent = x.spent;
+            whole = ap (λ gone. pieces.told past ++ gone)
+                (closing-rest sessions slots past rounds r0 r1 old mid.core built len owned g);
+          };
+        };
+        interests = ap (λ y. y.core.begun) same ∙ g.begun;
+        rounds_begun = ap (λ y. y.core.ticker) same ∙ g.ticker;
+        timers_made = ap (λ y. y.core.made) same ∙ g.made;
+      }
+
+  -- all was done, unless there was no room for the endings
+  pub answers-opened : (result : Result T OpenError) → AllBuilt sessions → length slots ≡ length sessions →
+      Owned slots (tags mid.core.sources) →
+      (past : Pieces) × CallSettled sessions rounds old r0 r1 mid.core slots past → r2 ≡ told r1 gone_calls →
+      IfOk result (λ v. AllEnd 0 slots (items v)) → OnErr result (result ≡ Err open_err.OutOfMemory) →
+      Answers items result sessions rounds ample r0 r2 old new.core
+  answers-opened (Ok v) built len owned (past, x) gained ends err = (
+    pieces.told past ++ gone_calls,
+    after-gone r0 r1 r2 (pieces.told past) gone_calls x.going.gained gained,
+    opened-all (items v) past built len owned x ends,
+    tt,
+  )
+  answers-opened (Err e) built len owned (past, x) gained ends err =
+      let R : Result T OpenError → Type 0 =
+      λ y. RefusedWith sessions rounds ample old new.core y (pieces.told past ++ gone_calls) in (
+        pieces.told past ++ gone_calls,
+        after-gone r0 r1 r2 (pieces.told past) gone_calls x.going.gained gained,
+        tt,
+        subst R (sym err) tt,
+      )
+
+-- there was no room for the slots
+pub answers-none : {T : Type 0} (items : T → List Ended) (result : Result T OpenError) (sessions : List Session)
+    (rounds : ℕ) (ample : Bool) (r : Option (List Event)) (old : Core) →
+    IsErrAnd result (λ x. x ≡ open_err.OutOfMemory) → Answers items result sessions rounds ample r r old old
+answers-none items (Ok v) sessions rounds ample r old is = absurd is
+answers-none {T} items (Err x) sessions rounds ample r old is =
+    let R : OpenError → Type 0 = λ y. RefusedWith {T = T} sessions rounds ample old old (Err y) [] in
+    ([], told-nothing r, tt, subst R (sym is) tt)
 
 -- ---- what is not refused
 
-pub completes : {T : Type 0} (r : Result T OpenError) (sessions : List Session) (rounds : ℕ) (old new : Core) (events : List Event) (before now : ℕ) → OpenCounted r before now →
-    RefusedWith sessions rounds old new r events → ¬ Rose before now → old.ticker + rounds < 2 ^ 64 → Completes r
-completes (Ok v) sessions rounds old new events before now cause refused calm low = tt
-completes (Err open_err.OutOfMemory) sessions rounds old new events before now cause refused calm low = tt
-completes (Err open_err.Poller) sessions rounds old new events before now cause refused calm low = absurd (calm cause)
-completes (Err (open_err.Exhausted c value)) sessions rounds old new events before now cause refused calm low =
+pub completes : {T : Type 0} (r : Result T OpenError) (sessions : List Session) (rounds : ℕ) (ample : Bool) (old new : Core) (events : List Event) (before now : ℕ) → OpenCounted r before now →
+    RefusedWith sessions rounds ample old new r events → ¬ Rose before now → old.ticker + rounds < 2 ^ 64 → Completes r
+completes (Ok v) sessions rounds ample old new events before now cause refused calm low = tt
+completes (Err open_err.OutOfMemory) sessions rounds ample old new events before now cause refused calm low = tt
+completes (Err open_err.Poller) sessions rounds ample old new events before now cause refused calm low = absurd (calm cause)
+completes (Err (open_err.Exhausted c value)) sessions rounds ample old new events before now cause refused calm low =
     let last = refused.3.last in
     let left = refused.3.left in
     absurd (omega (arith, last, left, low))

@@ -46,9 +46,11 @@ use Rattle.bus_peers.specs.inside.Rounds.{WokenBy, Rounded}
 use Rattle.bus_peers.specs.inside.Due.{is_in, is_due, due_at}
 use Rattle.bus_peers.specs.inside.Rounds.{round_events}
 use Rattle.bus_visit.specs.Counts.{waits_in}
+use Rattle.bus_record.specs.Failing.{Made}
+use Rattle.bus_peers.specs.inside.Failures.{IfPoller, RoundFailed}
 use Rattle.bus_peers.specs.inside.Slots.{Told, Refuses, RefusedAt}
 use Rattle.bus_visit.specs.Shown.{shown, side_of, place_side, Sane, SanePlace, SaneTask, SaneSource, AllSane, IsBetweenCalls, tags}
-use Rattle.bus_peers.proofs.Courses.{Rounds, course-core}
+use Rattle.bus_peers.proofs.Courses.{RoundCut, rounds-cut, Rounds, course-core}
 use Rattle.bus_visit.specs.laws.Sources.{shown_at, held_at-shown, reported-shown, arming-shown, lone-marked, after_report-shown, after_reports-shown}
 use Rattle.bus_visit.specs.laws.Sanity.{sane-at, sane-with}
 use Rattle.bus_visit.specs.laws.Tags.{tags-after_reports}
@@ -443,22 +445,22 @@ course_tags old new (Read first pause) tasks steps =
     ap (λ c. tags c.sources) (course-core old new first pause tasks steps) ∙ tags-after_reports (old.ticker + 1) old.sources (pause_reports pause)
 
 -- what a refused round came to
-abbrev pub RanSo : Option (List Event) → Option (List Event) → ℕ → ℕ → ReactorState → ReactorState → Woken → Woken → ReactError → Type 0
-RanSo r0 r1 m0 m1 old new wakes wakes' e = (course : Course) × (tries : List Try) × Ran WokenBy None r0 r1 m0 m1 old new wakes wakes' (Err e) course tries
+abbrev pub RanSo : Bool → Option (List Event) → Option (List Event) → ℕ → ℕ → ReactorState → ReactorState → Woken → Woken → ReactError → Type 0
+RanSo ample r0 r1 m0 m1 old new wakes wakes' e = (course : Course) × (tries : List Try) × Ran WokenBy None ample r0 r1 m0 m1 old new wakes wakes' (Err e) course tries
 
 abbrev pub Same : ReactorState → ReactorState → Option (List Event) → Option (List Event) → Woken → Woken → ℕ → ℕ → Type 0
 Same old new r0 r1 wakes wakes' m0 m1 = (new ≡ old) × (wakes' ≡ wakes) × (r1 ≡ r0) × (m1 ≡ m0)
 
-ran_tags : (r0 r1 : Option (List Event)) (m0 m1 : ℕ) (old new : ReactorState) (wakes wakes' : Woken)
-    (e : ReactError) → RanSo r0 r1 m0 m1 old new wakes wakes' e → tags new.core.sources ≡ tags old.core.sources
+ran_tags : {ample : Bool} (r0 r1 : Option (List Event)) (m0 m1 : ℕ) (old new : ReactorState) (wakes wakes' : Woken)
+    (e : ReactError) → RanSo ample r0 r1 m0 m1 old new wakes wakes' e → tags new.core.sources ≡ tags old.core.sources
 ran_tags r0 r1 m0 m1 old new wakes wakes' e (course, tries, ran) = course_tags old.core new.core course ran.tasks ran.steps
 
-pub refused-tags : (r0 r1 : Option (List Event)) (m0 m1 : ℕ) (old new : ReactorState) (wakes wakes' : Woken)
-    (e : ReactError) → UnlessExhausted {T = Unit {0}} (Err e) (RanSo r0 r1 m0 m1 old new wakes wakes' e) →
+pub refused-tags : (ample : Bool) (r0 r1 : Option (List Event)) (m0 m1 : ℕ) (old new : ReactorState) (wakes wakes' : Woken)
+    (e : ReactError) → UnlessExhausted {T = Unit {0}} (Err e) (RanSo ample r0 r1 m0 m1 old new wakes wakes' e) →
     OnExhausted {T = Unit {0}} (Err e) (Same old new r0 r1 wakes wakes' m0 m1) → tags new.core.sources ≡ tags old.core.sources
-refused-tags r0 r1 m0 m1 old new wakes wakes' react_err.Poller ran same = ran_tags r0 r1 m0 m1 old new wakes wakes' react_err.Poller ran
-refused-tags r0 r1 m0 m1 old new wakes wakes' react_err.OutOfMemory ran same = ran_tags r0 r1 m0 m1 old new wakes wakes' react_err.OutOfMemory ran
-refused-tags r0 r1 m0 m1 old new wakes wakes' (react_err.Exhausted c value) ran same = ap (λ x. tags x.core.sources) same.0
+refused-tags ample r0 r1 m0 m1 old new wakes wakes' react_err.Poller ran same = ran_tags r0 r1 m0 m1 old new wakes wakes' react_err.Poller ran
+refused-tags ample r0 r1 m0 m1 old new wakes wakes' react_err.OutOfMemory ran same = ran_tags r0 r1 m0 m1 old new wakes wakes' react_err.OutOfMemory ran
+refused-tags ample r0 r1 m0 m1 old new wakes wakes' (react_err.Exhausted c value) ran same = ap (λ x. tags x.core.sources) same.0
 
 -- an arming is no round
 modify_waits : (wire key : ℕ) (read write : Bool) (answer : Result (Unit {0}) Fault) → waits_in (modify_told wire key read write answer) ≡ 0
@@ -476,8 +478,8 @@ paused_waits : (first : ℕ) (pause : Pause) (tries : List Try) → waits_in (co
 paused_waits first pause tries one = waits_in-append (course_told None (Read first pause)) (tries_told tries)
     ∙ (ap (λ n. n + waits_in (tries_told tries)) one ∙ ap (λ n. 1 + n) (tries_waits tries))
 
-paused_told : (r0 r1 : Option (List Event)) (m0 m1 : ℕ) (old new : ReactorState) (wakes wakes' : Woken) (first : ℕ)
-    (pause : Pause) (tries : List Try) → Ran WokenBy None r0 r1 m0 m1 old new wakes wakes' (Err react_err.Poller)
+paused_told : {ample : Bool} (r0 r1 : Option (List Event)) (m0 m1 : ℕ) (old new : ReactorState) (wakes wakes' : Woken) (first : ℕ)
+    (pause : Pause) (tries : List Try) → Ran WokenBy None ample r0 r1 m0 m1 old new wakes wakes' (Err react_err.Poller)
     (Read first pause) tries →
     new.core.hands ≡ None → waits_in (course_told None (Read first pause)) ≡ 1 → Told r0 r1 old.core new.core (course_told None (Read first pause) ++ tries_told tries)
 paused_told r0 r1 m0 m1 old new wakes wakes' first pause tries ran closed one =
@@ -488,8 +490,8 @@ paused_told r0 r1 m0 m1 old new wakes wakes' first pause tries ran closed one =
       ticker = ap (λ c. c.ticker) core ∙ ap (λ n. old.core.ticker + n) (sym (paused_waits first pause tries one));
     }
 
-poller_told : (r0 r1 : Option (List Event)) (m0 m1 : ℕ) (old new : ReactorState) (wakes wakes' : Woken)
-    (course : Course) (tries : List Try) → Ran WokenBy None r0 r1 m0 m1 old new wakes wakes' (Err react_err.Poller)
+poller_told : {ample : Bool} (r0 r1 : Option (List Event)) (m0 m1 : ℕ) (old new : ReactorState) (wakes wakes' : Woken)
+    (course : Course) (tries : List Try) → Ran WokenBy None ample r0 r1 m0 m1 old new wakes wakes' (Err react_err.Poller)
     course tries → new.core.hands ≡ None →
     Told r0 r1 old.core new.core (course_told None course ++ tries_told tries)
 poller_told r0 r1 m0 m1 old new wakes wakes' Unread tries ran closed = let e = ran.answers in absurd cc
@@ -498,13 +500,13 @@ poller_told r0 r1 m0 m1 old new wakes wakes' (Read first (Waited answer)) tries 
 poller_told r0 r1 m0 m1 old new wakes wakes' (Read first (Reread answer moment)) tries ran closed = paused_told r0 r1 m0 m1 old new wakes wakes' first (Reread answer moment) tries ran closed refl
 poller_told r0 r1 m0 m1 old new wakes wakes' (Read first (Unreread answer)) tries ran closed = paused_told r0 r1 m0 m1 old new wakes wakes' first (Unreread answer) tries ran closed refl
 
-poller_refused : (r0 r1 : Option (List Event)) (m0 m1 : ℕ) (old new : ReactorState) (wakes wakes' : Woken) →
-    RanSo r0 r1 m0 m1 old new wakes wakes' react_err.Poller → new.core.hands ≡ None → (more : List Event) ×
+poller_refused : {ample : Bool} (r0 r1 : Option (List Event)) (m0 m1 : ℕ) (old new : ReactorState) (wakes wakes' : Woken) →
+    RanSo ample r0 r1 m0 m1 old new wakes wakes' react_err.Poller → new.core.hands ≡ None → (more : List Event) ×
     Told r0 r1 old.core new.core more
 poller_refused r0 r1 m0 m1 old new wakes wakes' (course, tries, ran) closed = (course_told None course ++ tries_told tries, poller_told r0 r1 m0 m1 old new wakes wakes' course tries ran closed)
 
-memory_refused : (r0 r1 : Option (List Event)) (m0 m1 : ℕ) (old new : ReactorState) (wakes wakes' : Woken) →
-    RanSo r0 r1 m0 m1 old new wakes wakes' react_err.OutOfMemory → (more : List Event) × (r1 ≡ told r0 more)
+memory_refused : {ample : Bool} (r0 r1 : Option (List Event)) (m0 m1 : ℕ) (old new : ReactorState) (wakes wakes' : Woken) →
+    RanSo ample r0 r1 m0 m1 old new wakes wakes' react_err.OutOfMemory → (more : List Event) × (r1 ≡ told r0 more)
 memory_refused r0 r1 m0 m1 old new wakes wakes' (course, tries, ran) = (course_told None course ++ tries_told tries, ran.gained)
 
 same_told : (r0 r1 : Option (List Event)) (old new : ReactorState) → new ≡ old → r1 ≡ r0 → new.core.hands ≡ None → Told r0 r1 old.core new.core []
@@ -515,24 +517,24 @@ same_told r0 r1 old new same events closed = record {
   ticker = ap (λ x. x.core.ticker) same ∙ omega arith;
 }
 
-refused_by : (r0 r1 : Option (List Event)) (m0 m1 : ℕ) (old new : ReactorState) (wakes wakes' : Woken)
-    (e : ReactError) → UnlessExhausted {T = Unit {0}} (Err e) (RanSo r0 r1 m0 m1 old new wakes wakes' e) →
+refused_by : (ample : Bool) (r0 r1 : Option (List Event)) (m0 m1 : ℕ) (old new : ReactorState) (wakes wakes' : Woken)
+    (e : ReactError) → UnlessExhausted {T = Unit {0}} (Err e) (RanSo ample r0 r1 m0 m1 old new wakes wakes' e) →
     OnExhausted {T = Unit {0}} (Err e) (Same old new r0 r1 wakes wakes' m0 m1) →
     NumberedBy {T = Unit {0}} (Err e) old.core.ticker → new.core.hands ≡ None →
     RefusedAt (open_error e) r0 r1 old.core new.core
-refused_by r0 r1 m0 m1 old new wakes wakes' react_err.Poller ran same numbered closed = poller_refused r0 r1 m0 m1 old new wakes wakes' ran closed
-refused_by r0 r1 m0 m1 old new wakes wakes' react_err.OutOfMemory ran same numbered closed = (closed, memory_refused r0 r1 m0 m1 old new wakes wakes' ran)
-refused_by r0 r1 m0 m1 old new wakes wakes' (react_err.Exhausted c value) ran same numbered closed =
+refused_by ample r0 r1 m0 m1 old new wakes wakes' react_err.Poller ran same numbered closed = poller_refused r0 r1 m0 m1 old new wakes wakes' ran closed
+refused_by ample r0 r1 m0 m1 old new wakes wakes' react_err.OutOfMemory ran same numbered closed = (closed, memory_refused r0 r1 m0 m1 old new wakes wakes' ran)
+refused_by ample r0 r1 m0 m1 old new wakes wakes' (react_err.Exhausted c value) ran same numbered closed =
     (numbered.0, numbered.1, ap (λ x. x.core.ticker) same.0 ∙ numbered.2, ([], same_told r0 r1 old new same.0 same.2 closed))
 
 -- an answer of this refusal
-pub round-refused : {T : Type 0} (result : Result T OpenError) (r0 r1 : Option (List Event)) (m0 m1 : ℕ)
+pub round-refused : {T : Type 0} (ample : Bool) (result : Result T OpenError) (r0 r1 : Option (List Event)) (m0 m1 : ℕ)
     (old new : ReactorState) (wakes wakes' : Woken) (e : ReactError) → IsErrAnd result (λ x. x ≡ open_error e) →
-    UnlessExhausted {T = Unit {0}} (Err e) (RanSo r0 r1 m0 m1 old new wakes wakes' e) →
+    UnlessExhausted {T = Unit {0}} (Err e) (RanSo ample r0 r1 m0 m1 old new wakes wakes' e) →
     OnExhausted {T = Unit {0}} (Err e) (Same old new r0 r1 wakes wakes' m0 m1) → NumberedBy {T = Unit {0}} (Err e) old.core.ticker → new.core.hands ≡ None → Refuses result r0 r1 old.core new.core
-round-refused (Ok v) r0 r1 m0 m1 old new wakes wakes' e is ran same numbered closed = tt
-round-refused (Err x) r0 r1 m0 m1 old new wakes wakes' e is ran same numbered closed =
-    subst (λ y. RefusedAt y r0 r1 old.core new.core) (sym is) (refused_by r0 r1 m0 m1 old new wakes wakes' e ran same numbered closed)
+round-refused ample (Ok v) r0 r1 m0 m1 old new wakes wakes' e is ran same numbered closed = tt
+round-refused ample (Err x) r0 r1 m0 m1 old new wakes wakes' e is ran same numbered closed =
+    subst (λ y. RefusedAt y r0 r1 old.core new.core) (sym is) (refused_by ample r0 r1 m0 m1 old new wakes wakes' e ran same numbered closed)
 
 -- ---- a round leaves each session where it stands
 
@@ -575,3 +577,39 @@ reports_from held reports k h next (h', is, same) = (let z = next h' is in (z.0,
 pub reports-at : (held : List Held) (reports : List Report) (k : ℕ) (h : Held) → held_at held k ≡ Some h → (h' : Held) × (held_at (after_reports_held held reports) k ≡ Some h') × (h'.wire ≡ h.wire)
 reports-at held [] k h is = (h, is, refl)
 reports-at held (r ∷ reports) k h is = reports_from (after_report_held held r) reports k h (λ h1 at. reports-at (after_report_held held r) reports k h1 at) (report-at held r k h is)
+
+-- ---- a round in which a call of the poller failed
+
+pub round-failed : (ample : Bool) (r0 r1 : Option (List Event)) (m0 m1 : ℕ) (old new : ReactorState)
+    (wakes wakes' : Woken) (e : ReactError) → IsBetweenCalls old.core →
+    UnlessExhausted {T = Unit {0}} (Err e) (RanSo ample r0 r1 m0 m1 old new wakes wakes' e) →
+    IfPoller (open_error e) ((r : Round) × (rearmed : List Event) × RoundFailed ample r0 r1 old.core new.core r rearmed)
+round-failed ample r0 r1 m0 m1 old new wakes wakes' react_err.OutOfMemory rests ran = tt
+round-failed ample r0 r1 m0 m1 old new wakes wakes' (react_err.Exhausted c value) rests ran = tt
+round-failed ample r0 r1 m0 m1 old new wakes wakes' react_err.Poller rests (course, tries, ran) =
+    failed_so (rounds-cut WokenBy ample r0 r1 m0 m1 old new wakes wakes' course tries ran)
+  where
+    ran_ticker : (course : Course) (tries : List Try) →
+        Ran WokenBy None ample r0 r1 m0 m1 old new wakes wakes' (Err react_err.Poller) course tries →
+        new.core.ticker ≡ old.core.ticker + 1
+    ran_ticker Unread tries ran = absurd (let e = ran.answers in cc)
+    ran_ticker (Read first pause) tries ran =
+        ap (λ c. c.ticker) (course-core old.core new.core first pause ran.tasks ran.steps)
+
+    failed_so : (r : Round) × (rearmed : List Event) × RoundCut ample r0 r1 old.core r rearmed →
+        (r : Round) × (rearmed : List Event) × RoundFailed ample r0 r1 old.core new.core r rearmed
+    failed_so (r, rearmed, x) =
+        let M : List Event → Type 0 = λ calls. Made ample calls rearmed in
+        let sane : AllSane (old.core.ticker + 1) old.core.ticker old.core.sources =
+        sane-weaker old.core.ticker (old.core.ticker + 1) old.core.ticker old.core.ticker old.core.sources
+        (omega arith) (omega arith) rests.sane in (
+          r,
+          rearmed,
+          record {
+            read = x.read;
+            gained = x.gained;
+            made = subst M (rearming-shown old.core.ticker old.core.sources (reports_of r.answer) sane) x.made;
+            failed = x.failed;
+            ticker = ran_ticker course tries ran;
+          },
+        )

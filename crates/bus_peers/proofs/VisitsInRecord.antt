@@ -102,7 +102,7 @@ calls-reading wire (event.Send on offered answer ∷ calls) tail last (h, hs) = 
 calls-reading wire (e ∷ calls) tail last (h, hs) = absurd h
 
 -- nor do they touch a key
-calls-key : (wire : ℕ) (calls : List Event) (key : Option ℕ) → AreCalls wire calls → key_through key calls ≡ key
+pub calls-key : (wire : ℕ) (calls : List Event) (key : Option ℕ) → AreCalls wire calls → key_through key calls ≡ key
 calls-key wire [] key h = refl
 calls-key wire (event.Recv on size answer ∷ calls) key (h, hs) = calls-key wire calls key hs
 calls-key wire (event.Send on offered answer ∷ calls) key (h, hs) = calls-key wire calls key hs
@@ -338,7 +338,7 @@ module _ (s : Session) (wire key : ℕ) (past : Pieces) (r0 r1 : Option (List Ev
 -- ---- a session that was not visited before
 
 -- its Dials come to this
-first-dials : (s : Session) (wire : ℕ) (past : Pieces) (dials : List Answered) (to : Dialling) → IsNew wire past →
+pub first-dials : (s : Session) (wire : ℕ) (past : Pieces) (dials : List Answered) (to : Dialling) → IsNew wire past →
     dials_through (dialling.begins s.party) dials ≡ Some to → FirstDials s wire past dials to
 first-dials s wire past dials to new comes = record { comes = comes; unvisited = new.unvisited; unheard = new.unheard }
 
@@ -594,6 +594,21 @@ module _ (s : Session) (wire key : ℕ) (past : Pieces) (dials : List Answered) 
   opened-goes (slot.Asleep sl) (h, h', calls, o, x) = opened-found sl h h' calls o x (x.stays.goes talk [] stands) (some-arms o x.stays.over)
   opened-goes slot.Refused (h, h', calls, o, x) = absurd x.stays
 
+  asleep-visits : (sl : Sleeper) (h h' : Held) (calls : List Event) (o : Option (List Event)) →
+      RegisteredVisit wire key begun-at r1 mid new client (slot.Asleep sl) h h' calls o →
+      (b' : List ℕ) × Pauses talk [] client sl.client calls b' → (arm : List Event) × (o ≡ Some arm) →
+      Visit s wire past (opened-visit (calls ++ arms_told o))
+  asleep-visits sl h h' calls o x (b', goes) (arm, is) = (first-asleep sl h h' calls o b' x goes arm is).visits
+
+  -- such a visit, by its parts
+  pub opened-visits : (c : Slot) (h h' : Held) (calls : List Event) (o : Option (List Event)) →
+      RegisteredVisit wire key begun-at r1 mid new client c h h' calls o →
+      Visit s wire past (opened-visit (calls ++ visited.tail_of wire key o c))
+  opened-visits (slot.Ended e) h h' calls o x = (first-ended e h h' calls o x).visits
+  opened-visits (slot.Asleep sl) h h' calls o x =
+      asleep-visits sl h h' calls o x (x.stays.goes talk [] stands) (some-arms o x.stays.over)
+  opened-visits slot.Refused h h' calls o x = absurd x.stays
+
 -- ---- both
 
 pub goes-first : (s : Session) (wire : ℕ) (past : Pieces) (r0 r1 : Option (List Event)) (old new : Core) (c : Slot) →
@@ -639,3 +654,41 @@ goes-again s wire past r0 r1 old new sl pending c built shows is stays =
     ap (λ l. outcome_of l begin) (sym late) ∙ (sym (ap (option_and_then (outcome_of (has_reached s.deadline (moment wire past)))) is.talking.through) ∙ is.comes) in
     again-by s wire sl.key past r0 r1 old new sl.client is.talking.talk is.talking.got (Some is.talking.dir) c (built-late s built) shows is.talking.stands is.talking.through
     (ap is_ended comes) stays
+
+-- ---- a later visit, by its parts
+
+again-visits : (s : Session) (wire key : ℕ) (past : Pieces) (r0 r1 : Option (List Event)) (old new : Core)
+    (c : Opening) (talk : List (List ℕ) → Said) (b : List ℕ) (paused-so : Option Dir) (c' : Slot) (h h' : Held)
+    (calls : List Event) (o : Option (List Event)) → s.deadline ≡ None → Shows past (map shown old.sources) →
+    StandsIn talk b c → course s (part wire (pieces.told past)) ≡ Some (stands_at s.party talk b c paused-so) →
+    is_ended (outcome_in false (stands_at s.party talk b c paused-so).progress) ≡ false →
+    RegisteredVisit wire key r0 r1 old new c c' h h' calls o → Visit s wire past (calls ++ visited.tail_of wire key o c')
+again-visits s wire key past r0 r1 old new c talk b paused-so (slot.Ended e) h h' calls o built shows stands came open_ x =
+    (again-ended s wire key past r0 r1 old new c talk b paused-so built shows stands came open_ e h h' calls o x).visits
+again-visits s wire key past r0 r1 old new c talk b paused-so (slot.Asleep sl) h h' calls o built shows stands came open_ x =
+    asleep_so (x.stays.goes talk b stands) (some-arms o x.stays.over)
+  where
+    asleep_so : (b' : List ℕ) × Pauses talk b c sl.client calls b' → (arm : List Event) × (o ≡ Some arm) →
+        Visit s wire past (calls ++ arms_told o)
+    asleep_so (b', goes) (arm, is) =
+        (again-asleep s wire key past r0 r1 old new c talk b paused-so built shows stands came open_ sl h h' calls o b'
+        x goes arm is).visits
+again-visits s wire key past r0 r1 old new c talk b paused-so slot.Refused h h' calls o built shows stands came open_ x =
+    absurd x.stays
+
+pub later-visits : (s : Session) (wire : ℕ) (past : Pieces) (r0 r1 : Option (List Event)) (old new : Core)
+    (sl : Sleeper) (pending : List ℕ) (c : Slot) (h h' : Held) (calls : List Event) (o : Option (List Event)) →
+    is_built s ≡ true → Shows past (map shown old.sources) → Stands s wire pending past (slot.Asleep sl) →
+    RegisteredVisit wire sl.key r0 r1 old new sl.client c h h' calls o →
+    Visit s wire past (calls ++ visited.tail_of wire sl.key o c)
+later-visits s wire past r0 r1 old new sl pending c h h' calls o built shows is x =
+    let begin : Course = stands_at s.party is.talking.talk is.talking.got sl.client (Some is.talking.dir) in
+    let late : has_reached s.deadline (moment wire past) ≡ false =
+    none-reached s.deadline (moment wire past) (built-late s built) in
+    let comes : outcome_of false begin
+        ≡ Some (record { ending = ending.Waiting; written = sl.client.written; leftover = sl.client.rest }) =
+    ap (λ l. outcome_of l begin) (sym late)
+    ∙ (sym (ap (option_and_then (outcome_of (has_reached s.deadline (moment wire past)))) is.talking.through)
+    ∙ is.comes) in
+    again-visits s wire sl.key past r0 r1 old new sl.client is.talking.talk is.talking.got (Some is.talking.dir) c h h'
+    calls o (built-late s built) shows is.talking.stands is.talking.through (ap is_ended comes) x

@@ -153,6 +153,15 @@ add-next s wire h c key events free =
     ∙ ap (λ o. goes_on s wire (here_by h (event.Add wire key true))
     (if is_none o then Some (conversing key c) else None) events) free
 
+-- the Dials that opened a wire, and the registration under a free key
+pub registers-next : (s : Session) (wire key : ℕ) (past : Pieces) (dials : List Answered) (o : Opened) →
+    FirstDials s wire past dials (opens o) → holder key past ≡ None →
+    goes_on s wire (here wire past) (starts s wire past) (dials_of wire dials ++ event.Add wire key true ∷ [])
+    ≡ Some (conversing key (opened_course s o))
+registers-next s wire key past dials o f free =
+    first-dials s wire past dials (opens o) (event.Add wire key true ∷ []) f
+    ∙ add-next s wire (here wire past) (opened_course s o) key [] free
+
 -- a first visit over a wire that was opened ends as its conversation does
 first-visit : (s : Session) (wire key : ℕ) (past : Pieces) (dials : List Answered) (o : Opened) (events : List Event) →
     FirstDials s wire past dials (opens o) → holder key past ≡ None →

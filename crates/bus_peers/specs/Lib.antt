@@ -1,4 +1,3 @@
-pub mod Counts
 pub mod Headline
 pub mod Faults
 pub mod inside

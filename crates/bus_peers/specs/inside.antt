@@ -8,3 +8,4 @@ pub mod Closing
 pub mod Slots
 pub mod Rounds
 pub mod SlotFaults
+pub mod Failures

@@ -1,15 +1,14 @@
 //! The end of a call: the sources of the sessions that sleep are taken out, and each session has its ending.
 
-ghost use Rattle.std.specs.Prelude.{◌≡◌, ◌<◌, ◌^◌, List, [], length, map, true, Err, IfOk, OnOk, OnErr};
+ghost use Rattle.std.specs.Prelude.{◌≡◌, ◌<◌, ◌^◌, [], length, map, true, Err, IfOk, OnOk, OnErr};
 ghost use Rattle.std.specs.List.{list_all};
-ghost use Rattle.react_core.specs.declared.outside.Event.{Event};
 ghost use Rattle.react_core.specs.Outer.{Keeps};
 ghost use Rattle.react_core.specs.Outer as part;
 ghost use Rattle.react_core.specs.Told.{told};
 ghost use Rattle.bus_peers.specs.declared.open.OpenError.TheVariants as open_err;
-ghost use Rattle.bus_peers.specs.Counts.{is_delete};
 ghost use Rattle.bus_peers.specs.inside.Rounds.{is_kept, AllEnd, EndsIn, IsHeld, without_slot, removal_told};
 ghost use Rattle.bus_peers.specs.inside.Closing.{closing};
+ghost use Rattle.bus_peers.specs.inside.Failures.{Removes};
 ghost use Rattle.bus_visit.specs.Shown.{shown, tags};
 ghost use Rattle.bus_peers.specs.inside.Slots.{Owned};
 ghost use Rattle.bus_peers.specs.inside.SlotFaults.{VisitsCounted};
@@ -32,9 +31,8 @@ fn remove_source<R: Registrar>(
     ensures told { OnOk result
         ((R.outer registrar.new).events
         ≡ told ((R.outer registrar.old).events) (removal_told slot.now reactor.old.core)) }
-    ensures removals { (more : List Event)
-        × ((R.outer registrar.new).events ≡ told ((R.outer registrar.old).events) more)
-        × (list_all is_delete more ≡ true) }
+    ensures removals { Removes (R.outer registrar.old).ample (removal_told slot.now reactor.old.core) result
+        ((R.outer registrar.old).events) ((R.outer registrar.new).events) }
     ensures cause { VisitsCounted result ((R.outer registrar.old).poller_faults)
         ((R.outer registrar.new).poller_faults) }
     ensures keeps { Keeps part.Poller (R.outer registrar.old) (R.outer registrar.new) }
@@ -58,9 +56,9 @@ pub(crate) fn remove_sources<R: Registrar>(
         ((R.outer registrar.new).events
         ≡ told ((R.outer registrar.old).events)
         (closing (length slots.now.items) 0 (map shown reactor.old.core.sources))) }
-    ensures removals { (more : List Event)
-        × ((R.outer registrar.new).events ≡ told ((R.outer registrar.old).events) more)
-        × (list_all is_delete more ≡ true) }
+    ensures removals { Removes (R.outer registrar.old).ample
+        (closing (length slots.now.items) 0 (map shown reactor.old.core.sources)) result
+        ((R.outer registrar.old).events) ((R.outer registrar.new).events) }
     ensures cause { VisitsCounted result ((R.outer registrar.old).poller_faults)
         ((R.outer registrar.new).poller_faults) }
     ensures keeps { Keeps part.Poller (R.outer registrar.old) (R.outer registrar.new) }

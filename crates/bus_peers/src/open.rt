@@ -10,6 +10,7 @@ ghost use Rattle.react_core.specs.Told.{told, Rose};
 ghost use Rattle.react_core.specs.declared.outside.Event.{Event};
 ghost use Rattle.bus_record.specs.Pieces.{Pieces};
 ghost use Rattle.bus_peers.specs.Faults.{EndedsCounted};
+ghost use Rattle.bus_peers.specs.inside.Failures.{OnPoller, CallFails};
 ghost use Rattle.bus_peers.specs.inside.SlotFaults.{AllCounted};
 ghost use Rattle.bus_peers.specs.Headline.{Opened, RefusedWith, OpenCounted, Completes};
 ghost use Rattle.bus_session.specs.Sessions.{is_built};
@@ -108,6 +109,10 @@ fn open_first<O: Outside>(
     ensures owned { Owned slots.new.items (tags reactor.new.core.sources) }
     ensures refused { Refuses result ((O.outer outside.old).events) ((O.outer outside.new).events) reactor.old.core
         reactor.new.core }
+    ensures failed { OnPoller result
+        ((rounds : ℕ) → CallFails sessions.now.items rounds (O.outer outside.old).ample reactor.old.core
+        ((O.outer outside.old).events) ((O.outer outside.new).events) reactor.new.core) }
+    ensures within { length slots.new.items ≤ length sessions.now.items }
     ensures cause { VisitsCounted result ((O.outer outside.old).poller_faults) ((O.outer outside.new).poller_faults) }
     ensures counted { OnOk result (AllCounted 0 slots.new.items (O.outer outside.old) (O.outer outside.new)) }
     ensures timers { reactor.new.core.made ≡ reactor.old.core.made }
@@ -148,6 +153,10 @@ fn open_rounds<O: Outside>(
     ensures owned { Owned slots.new.items (tags reactor.new.core.sources) }
     ensures refused { Refuses result ((O.outer outside.old).events) ((O.outer outside.new).events) reactor.old.core
         reactor.new.core }
+    ensures failed { OnPoller result
+        (CallFails sessions.now.items rounds (O.outer outside.old).ample reactor.old.core
+        ((O.outer outside.old).events) ((O.outer outside.new).events) reactor.new.core) }
+    ensures within { length slots.new.items ≤ length sessions.now.items }
     ensures cause { OpenCounted result ((O.outer outside.old).poller_faults) ((O.outer outside.new).poller_faults) }
     ensures counted { OnOk result (AllCounted 0 slots.new.items (O.outer outside.old) (O.outer outside.new)) }
     ensures timers { reactor.new.core.made ≡ reactor.old.core.made }
@@ -171,7 +180,8 @@ fn open_over<O: Outside>(
     requires built { list_all is_built sessions.now.items ≡ true }
     ensures opened { (r : List Event) × ((O.outer outside.new).events ≡ told ((O.outer outside.old).events) r)
         × IfOk result (λ endeds. Opened sessions.now.items rounds reactor.old.core reactor.new.core endeds.items r)
-        × RefusedWith sessions.now.items rounds reactor.old.core reactor.new.core result r }
+        × RefusedWith sessions.now.items rounds (O.outer outside.old).ample reactor.old.core reactor.new.core
+        result r }
     ensures idle { IsIdle reactor.new.core }
     ensures cause { OpenCounted result ((O.outer outside.old).poller_faults) ((O.outer outside.new).poller_faults) }
     ensures faults { IfOk result (λ endeds. EndedsCounted 0 endeds.items (O.outer outside.old) (O.outer outside.new)) }
@@ -214,7 +224,7 @@ pub fn open_all<O: Outside>(
     requires built { list_all is_built sessions.items ≡ true }
     ensures opened { (r : List Event) × ((O.outer outside.new).events ≡ told ((O.outer outside.old).events) r)
         × IfOk result (λ endeds. Opened sessions.items rounds reactor.old.core reactor.new.core endeds.items r)
-        × RefusedWith sessions.items rounds reactor.old.core reactor.new.core result r }
+        × RefusedWith sessions.items rounds (O.outer outside.old).ample reactor.old.core reactor.new.core result r }
     ensures cause { OpenCounted result ((O.outer outside.old).poller_faults) ((O.outer outside.new).poller_faults) }
     ensures complete { ¬ Rose ((O.outer outside.old).poller_faults) ((O.outer outside.new).poller_faults)
         → reactor.old.core.ticker + rounds < 2 ^ 64 → Completes result }

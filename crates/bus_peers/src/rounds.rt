@@ -10,6 +10,7 @@ ghost use Rattle.bus_peers.specs.inside.SlotFaults.{CountsOn};
 ghost use Rattle.bus_peers.specs.Headline.{OpenCounted};
 ghost use Rattle.bus_peers.specs.inside.Rounds.{Rounded, WokenBy, HaveWires, OnExhausted};
 ghost use Rattle.bus_peers.specs.inside.Due.{RisesFrom};
+ghost use Rattle.bus_peers.specs.inside.Failures.{OnPoller, RoundFailed, VisitsFailCall, RoundFailsCall, RoundsFailCall};
 ghost use Rattle.bus_peers.specs.declared.open.OpenError.TheVariants as open_err;
 ghost use Rattle.bus_peers.specs.inside.Due.{is_in};
 ghost use Rattle.bus_visit.specs.Shown.{IsBetweenCalls, tags, has_wire};
@@ -87,6 +88,10 @@ fn round<O: Clock + Poller>(
     ensures tags { tags reactor.new.core.sources ≡ tags reactor.old.core.sources }
     ensures exhausted { OnExhausted result
         (reactor.new ≡ reactor.old × (O.outer outside.new).events ≡ (O.outer outside.old).events) }
+    ensures failed { OnPoller result
+        ((r : Round) × (rearmed : List Event)
+        × RoundFailed (O.outer outside.old).ample ((O.outer outside.old).events)
+        ((O.outer outside.new).events) reactor.old.core reactor.new.core r rearmed) }
     ensures cause { OpenCounted result ((O.outer outside.old).poller_faults) ((O.outer outside.new).poller_faults) }
     ensures timers { reactor.new.core.made ≡ reactor.old.core.made }
     ensures keeps { Keeps (part.Round reactor.old.events) (O.outer outside.old) (O.outer outside.new) }
@@ -129,6 +134,10 @@ fn visit_slot<O: Wire + Registrar>(
         × Told ((O.outer outside.old).events) ((O.outer outside.new).events) reactor.old.core reactor.new.core more) }
     ensures refused { Refuses result ((O.outer outside.old).events) ((O.outer outside.new).events) reactor.old.core
         reactor.new.core }
+    ensures failed { OnPoller result
+        ((pending : List ℕ)
+        → VisitsFailCall (O.outer outside.old).ample (wire ∷ pending) ((O.outer outside.old).events)
+        ((O.outer outside.new).events) reactor.old.core reactor.new.core slots.old.items) }
     ensures cause { VisitsCounted result ((O.outer outside.old).poller_faults) ((O.outer outside.new).poller_faults) }
     ensures counted { OnOk result
         (CountsOn slots.old.items slots.new.items (O.outer outside.old) (O.outer outside.new)) }
@@ -170,6 +179,9 @@ fn visit_woken<O: Wire + Registrar>(
         × Told ((O.outer outside.old).events) ((O.outer outside.new).events) reactor.old.core reactor.new.core more) }
     ensures refused { Refuses result ((O.outer outside.old).events) ((O.outer outside.new).events) reactor.old.core
         reactor.new.core }
+    ensures failed { OnPoller result
+        (VisitsFailCall (O.outer outside.old).ample woken.now ((O.outer outside.old).events)
+        ((O.outer outside.new).events) reactor.old.core reactor.new.core slots.old.items) }
     ensures cause { VisitsCounted result ((O.outer outside.old).poller_faults) ((O.outer outside.new).poller_faults) }
     ensures counted { OnOk result
         (CountsOn slots.old.items slots.new.items (O.outer outside.old) (O.outer outside.new)) }
@@ -209,6 +221,9 @@ fn go_round<O: Outside>(
     ensures exhausted { OnExhausted result
         (reactor.new ≡ reactor.old × (O.outer outside.new).events ≡ (O.outer outside.old).events × slots.new.items
         ≡ slots.old.items) }
+    ensures failed { OnPoller result
+        (RoundFailsCall (O.outer outside.old).ample ((O.outer outside.old).events)
+        ((O.outer outside.new).events) reactor.old.core reactor.new.core slots.old.items) }
     ensures cause { OpenCounted result ((O.outer outside.old).poller_faults) ((O.outer outside.new).poller_faults) }
     ensures counted { OnOk result
         (CountsOn slots.old.items slots.new.items (O.outer outside.old) (O.outer outside.new)) }
@@ -242,6 +257,9 @@ pub(crate) fn go_rounds<O: Outside>(
         reactor.new.core }
     ensures stuck { Stuck result rounds ((O.outer outside.old).events) ((O.outer outside.new).events)
         reactor.old.core reactor.new.core slots.old.items slots.new.items }
+    ensures failed { OnPoller result
+        (RoundsFailCall (O.outer outside.old).ample rounds ((O.outer outside.old).events)
+        ((O.outer outside.new).events) reactor.old.core reactor.new.core slots.old.items) }
     ensures cause { OpenCounted result ((O.outer outside.old).poller_faults) ((O.outer outside.new).poller_faults) }
     ensures counted { OnOk result
         (CountsOn slots.old.items slots.new.items (O.outer outside.old) (O.outer outside.new)) }

@@ -207,6 +207,7 @@ Refuses (Err e) before after old new = RefusedAt e before after old new
 pub record CallHalted (sessions : List Session) (rounds : ℕ) (start : Core) (before after : Option (List Event))
     (core : Core) (slots : List Slot) (past : Pieces) : Type 0 where
   pub going : CallStands sessions rounds [] start before after core slots past
+  pub len : length slots ≡ length sessions
   pub rest : AllRest sessions past
   pub sleeper : sleepers sessions past ≢ []
   pub left : rounds_in past < rounds

@@ -5,7 +5,7 @@ use Rattle.react_core.specs.Told.{told-nothing}
 use Rattle.bus_peers.specs.inside.Rounds.{removal_told}
 use Rattle.bus_visit.specs.Shown.{shown, tags}
 use Rattle.bus_peers.specs.inside.Slots.{Owns}
-use Rattle.bus_peers.proofs.ClosingLemmas.{left-none, owns-slot, left-held, left-next, reactor-slot, reactor-end, removal-slot, told-slot, told-end, removals-more, counted-both}
+use Rattle.bus_peers.proofs.ClosingLemmas.{left-none, owns-slot, left-held, left-next, reactor-slot, reactor-end, removal-slot, told-slot, told-end, removes-more, removes-end, counted-both}
 use Rattle.bus_peers.proofs.closing.remove_sources.Goals as goal
 
 pub loop-slot-init : goal.loop-slot-init
@@ -14,7 +14,7 @@ loop-slot-init g c = record {
   reactor = refl;
   left = left-none (length c.args.slots.now.items) (tags c.args.reactor.now.core.sources) c.requires.owned.below c.requires.owned.single;
   told_so = told-nothing _;
-  removals = ([], told-nothing _, refl);
+  removals = ([], told-nothing _, refl, tt);
   cause = refl;
   keeps = keeps-same part.Poller _;
 }
@@ -46,7 +46,12 @@ loop-slot-preserved g c =
           (removal-slot c.loop-slot.slot-index (length c.args.slots.now.items) c.args.reactor.now.core
           c.loop-slot.reactor.core c.slot-item.result c.requires.owned.single owns c.loop-slot.invariant.left)
           c.loop-slot.invariant.told_so c.remove_source.ensures.told;
-      removals = removals-more _ _ _ c.loop-slot.invariant.removals c.remove_source.ensures.removals;
+      removals = removes-more _ _ c.loop-slot.answer c.remove_source.result c.and-answer.result c.loop-slot.slot-index _
+          _ _ (map shown c.args.reactor.now.core.sources) (removal_told c.slot-item.result c.loop-slot.reactor.core)
+          c.loop-slot.invariant.keeps.ample c.and-answer.ensures
+          (removal-slot c.loop-slot.slot-index (length c.args.slots.now.items) c.args.reactor.now.core
+          c.loop-slot.reactor.core c.slot-item.result c.requires.owned.single owns c.loop-slot.invariant.left)
+          c.loop-slot.invariant.removals c.remove_source.ensures.removals;
       cause = counted-both c.loop-slot.answer c.remove_source.result c.and-answer.result _ _ _ c.and-answer.ensures c.loop-slot.invariant.cause c.remove_source.ensures.cause;
       keeps = keeps-then part.Poller _ _ _ c.loop-slot.invariant.keeps c.remove_source.ensures.keeps;
     }
@@ -62,3 +67,9 @@ returns-clause-told g c =
     told-end c.loop-slot.answer c.loop-slot.slot-index c.deref-slot-items.result.now c.args.slots.now.items _ _
     (map shown c.args.reactor.now.core.sources) c.loop-slot.invariant.same
     c.loop-slot.auto.slot-index-end c.loop-slot-test.false c.loop-slot.invariant.told_so
+
+pub returns-clause-removals : goal.returns-clause-removals
+returns-clause-removals g c =
+    removes-end _ c.loop-slot.answer c.loop-slot.slot-index c.deref-slot-items.result.now c.args.slots.now.items _ _
+    (map shown c.args.reactor.now.core.sources) c.loop-slot.invariant.same c.loop-slot.auto.slot-index-end
+    c.loop-slot-test.false c.loop-slot.invariant.removals

@@ -15,6 +15,10 @@ use Rattle.bus_peers.specs.inside.SlotFaults.{AllCounted}
 use Rattle.bus_peers.proofs.FrameLemmas.{fell-all, first-made, all-none, all-more}
 use Rattle.bus_peers.proofs.SlotLemmas.{test-at, test-more, no_wire-above, owned-none, owned-first, first-open, refuses-more}
 use Rattle.bus_peers.proofs.CallVisits.{going-start, going-first, went-told}
+use Rattle.bus_visit.specs.Failing.{FirstVisitFails}
+use Rattle.bus_peers.specs.inside.Failures.{CallFails}
+use Rattle.bus_peers.proofs.FailingVisits.{going-first-fails}
+use Rattle.bus_peers.proofs.MadeLemmas.{on-poller, from-visit}
 use Rattle.bus_peers.proofs.open.open_first.Goals as goal
 
 pub loop-session-init : goal.loop-session-init
@@ -140,3 +144,29 @@ returns-in_err-first_visit-clause-timers g c =
 
 pub returns-in_err-first_visit-clause-keeps : goal.returns-in_err-first_visit-clause-keeps
 returns-in_err-first_visit-clause-keeps g c = λ room. keeps-then (part.All room) _ _ _ (c.loop-session.invariant.keeps room) (visit-in-all c.loop-session.wire room _ _ c.first_visit.ensures.keeps)
+
+pub returns-in_err-first_visit-clause-failed : goal.returns-in_err-first_visit-clause-failed
+returns-in_err-first_visit-clause-failed g c =
+    let here : c.loop-session.session-index ≡ length c.loop-session.slots.items = sym c.loop-session.invariant.len in
+    let at : slice_get c.deref-session-items.result.now c.loop-session.session-index ≡ Some c.session-item.result =
+    slice_get-get_or c.deref-session-items.result.now c.loop-session.session-index c.session-item.result
+    c.loop-session-test.true ∙ ap Some (sym c.session-item.is) in
+    let F : ℕ → Type 0 =
+    λ w. FirstVisitFails c.session-item.result w (g.O.Tells.outer c.loop-session.outside).ample
+    ((g.O.Tells.outer c.loop-session.outside).events) ((g.O.Tells.outer c.first_visit.new.outside).events)
+    c.loop-session.reactor.core in
+    let C : ℕ → List Session → Type 0 =
+    λ rounds x. CallFails x rounds (g.O.Tells.outer c.loop-session.outside).ample c.args.reactor.now.core
+    ((g.O.Tells.outer c.args.outside.now).events) ((g.O.Tells.outer c.first_visit.new.outside).events)
+    c.first_visit.new.reactor.core in
+    on-poller _ c.from_residual.result _ c.from_residual.ensures.1
+    (from-visit _ _ c.in_err-first_visit.field-0.0 (λ f rounds.
+    rw (c.loop-session.invariant.keeps 0).ample at
+    (subst (C rounds) c.loop-session.invariant.same
+    (going-first-fails c.deref-session-items.result.now rounds c.loop-session.session-index _ c.args.reactor.now.core _ _ _
+    c.loop-session.reactor.core c.first_visit.new.reactor.core c.loop-session.slots.items c.session-item.result
+    (test-at is_built c.deref-session-items.result.now c.loop-session.session-index c.session-item.result
+    (ap (list_all is_built) c.loop-session.invariant.same ∙ c.requires.built) at) here c.loop-session-test.true at
+    c.loop-session.invariant.owned c.in_err-first_visit.ensures.refused.1.tags
+    c.in_err-first_visit.ensures.refused.1.ticker (subst F c.loop-session.invariant.wire f)
+    (c.loop-session.invariant.went rounds)))) c.in_err-first_visit.ensures.failed)

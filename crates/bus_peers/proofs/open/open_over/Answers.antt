@@ -7,26 +7,31 @@ use Rattle.bus_peers.proofs.open.open_over.Goals as goal
 
 pub returns-in_err-slots-clause-opened : goal.returns-in_err-slots-clause-opened
 returns-in_err-slots-clause-opened g c =
-    answers-none (λ endeds. endeds.items) c.from_residual.result c.args.sessions.now.items c.args.rounds ((g.O.Tells.outer c.args.outside.now).events) c.args.reactor.now.core c.from_residual.ensures.1
+    answers-none (λ endeds. endeds.items) c.from_residual.result c.args.sessions.now.items c.args.rounds _ _
+    c.args.reactor.now.core c.from_residual.ensures.1
 
 pub returns-in_err-opened-clause-opened : goal.returns-in_err-opened-clause-opened
 returns-in_err-opened-clause-opened g c =
-    answers-refused (λ endeds. endeds.items)
-    c.from_residual-in_err-opened.result c.in_err-opened.field-0.0 c.args.sessions.now.items c.args.rounds
-    ((g.O.Tells.outer c.args.outside.now).events) ((g.O.Tells.outer c.open_rounds-opened.new.outside).events)
-    ((g.O.Tells.outer c.remove_sources-removed.new.registrar).events)
+    answers-refused (λ endeds. endeds.items) c.args.sessions.now.items c.args.rounds _ _ _ _
     c.args.reactor.now.core c.open_rounds-opened.new.reactor c.remove_sources-removed.new.reactor
-    c.open_rounds-opened.new.slots.items c.from_residual-in_err-opened.ensures.1
-    c.in_err-opened.ensures.halted c.in_err-opened.ensures.refused c.remove_sources-removed.ensures.reactor c.remove_sources-removed.ensures.removals
+    c.open_rounds-opened.new.slots.items c.remove_sources-removed.ensures.reactor
+    c.from_residual-in_err-opened.result c.in_err-opened.field-0.0 c.remove_sources-removed.result
+    c.from_residual-in_err-opened.ensures.1 c.requires.built c.open_rounds-opened.ensures.owned
+    c.open_rounds-opened.ensures.within c.in_err-opened.ensures.halted c.in_err-opened.ensures.refused
+    c.in_err-opened.ensures.failed
+    (rw c.open_rounds-opened.ensures.keeps.ample at c.remove_sources-removed.ensures.removals)
 
 pub returns-in_err-removed-clause-opened : goal.returns-in_err-removed-clause-opened
 returns-in_err-removed-clause-opened g c =
-    answers-unremoved (λ endeds. endeds.items)
-    c.from_residual-in_err-removed.result c.in_err-removed.field-0.0 c.args.sessions.now.items c.args.rounds
-    ((g.O.Tells.outer c.args.outside.now).events) ((g.O.Tells.outer c.open_rounds-opened.new.outside).events)
-    ((g.O.Tells.outer c.remove_sources-removed.new.registrar).events) c.args.reactor.now.core c.open_rounds-opened.new.reactor c.remove_sources-removed.new.reactor c.open_rounds-opened.new.slots.items
-    ((g.O.Tells.outer c.open_rounds-opened.new.outside).poller_faults) ((g.O.Tells.outer c.remove_sources-removed.new.registrar).poller_faults) c.from_residual-in_err-removed.ensures.1
-    c.in_ok-opened.ensures.rested c.in_err-removed.ensures.cause c.remove_sources-removed.ensures.reactor c.remove_sources-removed.ensures.removals
+    answers-unremoved (λ endeds. endeds.items) c.args.sessions.now.items c.args.rounds _ _ _ _
+    c.args.reactor.now.core c.open_rounds-opened.new.reactor c.remove_sources-removed.new.reactor
+    c.open_rounds-opened.new.slots.items c.remove_sources-removed.ensures.reactor
+    c.from_residual-in_err-removed.result c.in_err-removed.field-0.0
+    ((g.O.Tells.outer c.open_rounds-opened.new.outside).poller_faults)
+    ((g.O.Tells.outer c.remove_sources-removed.new.registrar).poller_faults) c.from_residual-in_err-removed.ensures.1
+    c.requires.built c.in_ok-opened.ensures.len c.open_rounds-opened.ensures.owned c.in_ok-opened.ensures.rested
+    c.in_err-removed.ensures.cause
+    (rw c.open_rounds-opened.ensures.keeps.ample at c.in_err-removed.ensures.removals)
 
 pub endeds_in-requires-clause-kept : goal.endeds_in-requires-clause-kept
 endeds_in-requires-clause-kept g c =
@@ -37,14 +42,10 @@ endeds_in-requires-clause-kept g c =
 
 pub returns-clause-opened : goal.returns-clause-opened
 returns-clause-opened g c =
-    answers-opened (λ endeds. endeds.items)
-    c.endeds_in.result c.args.sessions.now.items c.args.rounds ((g.O.Tells.outer c.args.outside.now).events)
-    ((g.O.Tells.outer c.open_rounds-opened.new.outside).events)
-    ((g.O.Tells.outer c.remove_sources-removed.new.registrar).events)
+    answers-opened (λ endeds. endeds.items) c.args.sessions.now.items c.args.rounds _ _ _ _
     c.args.reactor.now.core c.open_rounds-opened.new.reactor c.remove_sources-removed.new.reactor
-    c.open_rounds-opened.new.slots.items c.requires.built c.in_ok-opened.ensures.len
-    c.open_rounds-opened.ensures.owned
-    c.in_ok-opened.ensures.rested c.remove_sources-removed.ensures.reactor
+    c.open_rounds-opened.new.slots.items c.remove_sources-removed.ensures.reactor c.endeds_in.result c.requires.built
+    c.in_ok-opened.ensures.len c.open_rounds-opened.ensures.owned c.in_ok-opened.ensures.rested
     c.in_ok-removed.ensures.told c.endeds_in.ensures.ended c.endeds_in.ensures.err
 
 pub returns-in_err-slots-clause-keeps : goal.returns-in_err-slots-clause-keeps

@@ -5,6 +5,7 @@ use Rattle.react_core.specs.Outer as part
 use Rattle.bus_peers.proofs.SlotLemmas.{refuses-more}
 use Rattle.bus_peers.proofs.CallVisits.{went-told}
 use Rattle.bus_peers.proofs.FrameLemmas.{fell-all}
+use Rattle.bus_peers.proofs.MadeLemmas.{on-poller, if-poller-by, on-poller-by}
 use Rattle.bus_peers.proofs.open.open_rounds.Goals as goal
 
 pub returns-clause-refused : goal.returns-clause-refused
@@ -26,3 +27,15 @@ returns-clause-counted g c = on_ok_weaker c.go_rounds.result (λ counts. counts 
 
 pub returns-in_err-open_first-clause-keeps : goal.returns-in_err-open_first-clause-keeps
 returns-in_err-open_first-clause-keeps g c = c.open_first.ensures.keeps c.args.reactor.now.events
+
+pub returns-in_err-open_first-clause-failed : goal.returns-in_err-open_first-clause-failed
+returns-in_err-open_first-clause-failed g c =
+    on-poller _ c.from_residual.result _ c.from_residual.ensures.1
+    (if-poller-by _ _ c.in_err-open_first.field-0.0 (λ fails. fails c.args.rounds) c.in_err-open_first.ensures.failed)
+
+pub returns-clause-failed : goal.returns-clause-failed
+returns-clause-failed g c =
+    on-poller-by _ _ c.go_rounds.result (λ fails.
+    (rw (c.open_first.ensures.keeps 0).ample at fails) c.args.sessions.now.items c.args.reactor.now.core _
+    c.requires.built c.in_ok-open_first.ensures.len (c.in_ok-open_first.ensures.went c.args.rounds))
+    c.go_rounds.ensures.failed

@@ -9,6 +9,8 @@ use Rattle.react_core.specs.Outer as part
 use Rattle.bus_peers.proofs.FrameLemmas.{fell-round, counts-same, counts-then}
 use Rattle.bus_peers.proofs.SlotLemmas.{refuses-more, told-both}
 use Rattle.bus_peers.proofs.CallRounds.{going-round, round-told, round-wires}
+use Rattle.bus_peers.proofs.FailingRounds.{going-round-fails, round-then-fails}
+use Rattle.bus_peers.proofs.MadeLemmas.{on-poller, if-poller-by, on-poller-by}
 use Rattle.bus_peers.proofs.rounds.go_round.Goals as goal
 
 seen : (r0 r1 : Option (List Event)) (old new : Core) (wires woken : List ℕ) → wires ≡ woken → (r : Round) × Rounded r0 r1 old new woken r → (r : Round) × Rounded r0 r1 old new wires r
@@ -68,3 +70,19 @@ returns-clause-counted g c =
     on_ok_weaker c.visit_woken.result (λ counted. counts-then c.args.slots.now.items c.args.slots.now.items
     c.visit_woken.new.slots.items _ _ _ (fell-round c.args.reactor.now.events _ _ c.round.ensures.keeps)
     (counts-same c.args.slots.now.items _ _ (fell-round c.args.reactor.now.events _ _ c.round.ensures.keeps)) counted) c.visit_woken.ensures.counted
+
+pub returns-in_err-woken-clause-failed : goal.returns-in_err-woken-clause-failed
+returns-in_err-woken-clause-failed g c =
+    on-poller _ c.from_residual.result _ c.from_residual.ensures.1
+    (if-poller-by _ _ c.in_err-woken.field-0.0 (λ failed.
+    going-round-fails _ _ _ c.args.reactor.now.core c.round.new.reactor.core c.args.slots.now.items c.requires.owned
+    c.in_err-woken.ensures.tags failed) c.in_err-woken.ensures.failed)
+
+pub returns-clause-failed : goal.returns-clause-failed
+returns-clause-failed g c =
+    on-poller-by _ _ c.visit_woken.result (λ fails.
+    round-then-fails _ _ _ _ c.args.reactor.now.core c.round.new.reactor.core c.visit_woken.new.reactor.core
+    c.args.slots.now.items c.as_slice.result.now c.requires.owned
+    (seen _ _ c.args.reactor.now.core c.round.new.reactor.core c.as_slice.result.now c.in_ok-woken.woken.items
+    c.as_slice.ensures.value c.in_ok-woken.ensures.rounded)
+    (rw c.round.ensures.keeps.ample at fails)) c.visit_woken.ensures.failed

@@ -8,6 +8,8 @@ use Rattle.react_core.specs.Outer as part
 use Rattle.bus_peers.proofs.FrameLemmas.{fell-all, counts-none, counts-then}
 use Rattle.bus_peers.proofs.SlotLemmas.{refuses-more, told-both}
 use Rattle.bus_peers.proofs.CallRounds.{rounds-more, rounds-end, rounds-stuck}
+use Rattle.bus_peers.proofs.FailingRounds.{rounds-then-fail}
+use Rattle.bus_peers.proofs.MadeLemmas.{on-poller, if-poller-by}
 use Rattle.bus_peers.proofs.rounds.go_rounds.Goals as goal
 
 asleep : (core : Core) (b : Bool) → (IsIdle core → b ≡ true) → core.hands ≡ None → b ≡ false → core.sources ≢ []
@@ -88,3 +90,14 @@ returns-in_err-go_round-clause-keeps g c = keeps-then (part.All c.args.reactor.n
 
 pub loop-done-init : goal.loop-done-init
 loop-done-init g c = search (rules, keeps-same, counts-none)
+
+pub returns-in_err-go_round-clause-failed : goal.returns-in_err-go_round-clause-failed
+returns-in_err-go_round-clause-failed g c =
+    let off : c.is_idle.result ≡ false = search rules in
+    on-poller _ c.from_residual.result _ c.from_residual.ensures.1
+    (if-poller-by _ _ c.in_err-go_round.field-0.0 (λ fails.
+    rounds-then-fail _ c.args.rounds c.loop-done.done _ _ _ c.args.reactor.now.core c.loop-done.reactor.core
+    c.go_round.new.reactor.core c.args.slots.now.items c.loop-done.slots.items c.loop-done.invariant.len
+    c.loop-done-test.true
+    (asleep c.loop-done.reactor.core c.is_idle.result c.is_idle.ensures.1 c.loop-done.invariant.rests.idle off)
+    c.loop-done.invariant.went (rw c.loop-done.invariant.keeps.ample at fails)) c.in_err-go_round.ensures.failed)

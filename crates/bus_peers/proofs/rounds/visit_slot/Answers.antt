@@ -13,6 +13,8 @@ use Rattle.react_core.specs.Outer.{visit-in-all}
 use Rattle.bus_peers.specs.inside.SlotFaults.{CountsOn}
 use Rattle.bus_peers.proofs.FrameLemmas.{counts-set, visit-made}
 use Rattle.bus_peers.proofs.CallVisits.{going-again}
+use Rattle.bus_peers.proofs.FailingVisits.{going-again-fails}
+use Rattle.bus_peers.proofs.MadeLemmas.{on-poller, from-visit}
 use Rattle.bus_peers.proofs.rounds.visit_slot.Goals as goal
 
 within : (w : ℕ) (slots : List Slot) (ts : Tags) → Owned slots ts → has_wire w ts ≡ true → w < length slots
@@ -153,3 +155,15 @@ returns-clause-counted g c =
     let C : List Slot → Type 0 = λ x. CountsOn c.args.slots.now.items x (g.O.Tells.outer c.args.outside.now) (g.O.Tells.outer c.visit.new.outside) in
     subst C (sym (set-set c.args.slots.now.items c.args.wire c.replace-slot.new.dest c.in_ok-slots.field-0))
     (counts-set c.args.wire c.args.slots.now.items c.in_ok-slots.field-0 _ _ c.visit.ensures.keeps c.in_ok-slots.ensures.counted)
+
+pub returns-in_err-slots-clause-failed : goal.returns-in_err-slots-clause-failed
+returns-in_err-slots-clause-failed g c =
+    let at : slice_get c.args.slots.now.items c.args.wire ≡ Some (slot.Asleep c.in-Asleep.sleeper) =
+    read c.args.wire c.args.slots.now.items (tags c.args.reactor.now.core.sources) (slot.Asleep c.in-Asleep.sleeper)
+    c.index_mut.result.now c.requires.owned c.requires.registered c.in-Asleep.ensures.value
+    c.index_mut.ensures.value in
+    on-poller _ c.from_residual.result _ c.from_residual.ensures.1
+    (from-visit _ _ c.in_err-slots.field-0.0 (λ f pending.
+    going-again-fails c.args.wire pending _ _ _ c.args.reactor.now.core c.visit.new.reactor.core c.args.slots.now.items
+    c.in-Asleep.sleeper at c.requires.owned c.in_err-slots.ensures.refused.1.tags
+    c.in_err-slots.ensures.refused.1.ticker f) c.in_err-slots.ensures.failed)

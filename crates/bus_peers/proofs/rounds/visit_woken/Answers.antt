@@ -4,6 +4,8 @@ use Rattle.bus_visit.specs.Shown.{tags}
 use Rattle.bus_peers.specs.inside.Slots.{Refuses}
 use Rattle.react_core.specs.Outer.{keeps-same, keeps-then}
 use Rattle.react_core.specs.Outer as part
+use Rattle.bus_peers.proofs.FailingVisits.{visits-then-fail}
+use Rattle.bus_peers.proofs.MadeLemmas.{on-poller, if-poller-by}
 use Rattle.bus_peers.proofs.FrameLemmas.{fell-all, counts-none, counts-then}
 use Rattle.bus_peers.proofs.SlotLemmas.{refuses-more, told-both, rise-next, have-rest, wire-below, goes-next, goes-all}
 use Rattle.bus_peers.proofs.rounds.visit_woken.Goals as goal
@@ -78,3 +80,15 @@ returns-in_err-visit_slot-clause-keeps g c = λ room. keeps-then (part.All room)
 
 pub loop-wire-init : goal.loop-wire-init
 loop-wire-init g c = search (rules, keeps-same, counts-none)
+
+pub returns-in_err-visit_slot-clause-failed : goal.returns-in_err-visit_slot-clause-failed
+returns-in_err-visit_slot-clause-failed g c =
+    let w = slice_index_or c.args.woken.now c.loop-wire.wire-index 0 in
+    let rest = drop (c.loop-wire.wire-index + 1) c.args.woken.now in
+    let split = next c.args.woken.now c.loop-wire.wire-index c.loop-wire-test.true in
+    on-poller _ c.from_residual.result _ c.from_residual.ensures.1
+    (if-poller-by _ _ c.in_err-visit_slot.field-0.0 (λ fails.
+    visits-then-fail _ c.args.woken.now (w ∷ rest) _ _ _ c.args.reactor.now.core c.loop-wire.reactor.core
+    c.visit_slot.new.reactor.core c.args.slots.now.items c.loop-wire.slots.items
+    (rw split at c.loop-wire.invariant.went)
+    (rw (c.loop-wire.invariant.keeps 0).ample at (fails rest))) c.in_err-visit_slot.ensures.failed)

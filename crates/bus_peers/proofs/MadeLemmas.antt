@@ -1,0 +1,102 @@
+-- Calls of the poller that were made, each with an answer of its own.
+use Rattle.std.proofs.Common.{◌≡◌, inl, inr, Bool, true, false, not, ◌||◌, List, [], ◌∷◌, ◌++◌, Result, Ok, Err, refl}
+use Rattle.std.proofs.Common.{IsErrAnd, sym, ◌∙◌, ap, subst}
+use Rattle.std.specs.List.{list_any, list_all}
+use Rattle.std.proofs.lemmas.Bool.{and_parts, both_ways}
+use Rattle.react_core.specs.declared.outside.Event.{Event}
+use Rattle.react_core.specs.declared.outside.Event.TheVariants as event
+use Rattle.bus_record.specs.Failing.{Made, mended, is_failed}
+use Rattle.bus_visit.specs.Counts.{is_wait, waits_in}
+use Rattle.bus_peers.specs.declared.open.OpenError.{OpenError}
+use Rattle.bus_peers.specs.declared.open.OpenError.TheVariants as open_err
+use Rattle.react_core.specs.declared.reactor.ReactError.{ReactError}
+use Rattle.react_core.specs.declared.reactor.ReactError.TheVariants as react_err
+use Rattle.bus_visit.specs.Failing as visit
+use Rattle.bus_peers.specs.Headline.{open_error}
+use Rattle.bus_peers.specs.inside.Failures.{IfPoller, OnPoller}
+
+pub made-append : (ample : Bool) (calls calls' events events' : List Event) → Made ample calls events →
+    Made ample calls' events' → Made ample (calls ++ calls') (events ++ events')
+made-append ample [] calls' events events' none more =
+    let M : List Event → Type 0 = λ x. Made ample calls' (x ++ events') in subst M (sym none) more
+made-append ample (call ∷ calls) calls' events events' (inl (e, rest, is, so, made)) more =
+    inl (e, rest ++ events', ap (λ x. x ++ events') is, so, made-append ample calls calls' rest events' made more)
+made-append ample (call ∷ calls) calls' events events' (inr (lack, made)) more =
+    inr (lack, made-append ample calls calls' events events' made more)
+
+-- one call, with its answer
+pub made-one : (ample : Bool) (call e : Event) → mended e ≡ call → Made ample (call ∷ []) (e ∷ [])
+made-one ample call e so = inl (e, [], refl, so, refl)
+
+-- ---- whether one failed
+
+any-left : (a b : Bool) → a ≡ true → (a || b) ≡ true
+any-left true b is = refl
+any-left false b is = absurd (both_ways false refl is)
+
+pub failed-before : (a b : List Event) → list_any is_failed a ≡ true → list_any is_failed (a ++ b) ≡ true
+failed-before [] b is = absurd (both_ways false refl is)
+failed-before (e ∷ a) b is = go (is_failed e) is (failed-before a b) where
+  go : (one : Bool) → (one || list_any is_failed a) ≡ true →
+      (list_any is_failed a ≡ true → list_any is_failed (a ++ b) ≡ true) → (one || list_any is_failed (a ++ b)) ≡ true
+  go true is ih = refl
+  go false is ih = ih is
+
+pub failed-after : (a b : List Event) → list_any is_failed b ≡ true → list_any is_failed (a ++ b) ≡ true
+failed-after [] b is = is
+failed-after (e ∷ a) b is = go (is_failed e) (failed-after a b is) where
+  go : (one : Bool) → list_any is_failed (a ++ b) ≡ true → (one || list_any is_failed (a ++ b)) ≡ true
+  go true ih = refl
+  go false ih = ih
+
+-- ---- no wait is among calls without one
+
+same-wait : (e : Event) → is_wait (mended e) ≡ is_wait e
+same-wait (event.Add wire key ok) = refl
+same-wait (event.Modify wire key read write ok) = refl
+same-wait (event.Delete wire key ok) = refl
+same-wait (event.Notify ok) = refl
+same-wait e = refl
+
+abbrev pub is_quiet_call : Event → Bool
+is_quiet_call e = not (is_wait e)
+
+quiet-false : (b : Bool) → not b ≡ true → b ≡ false
+quiet-false true is = absurd (both_ways false refl is)
+quiet-false false is = refl
+
+pub made-waits : (ample : Bool) (calls events : List Event) → list_all is_quiet_call calls ≡ true →
+    Made ample calls events → waits_in events ≡ 0
+made-waits ample [] events quiet none = ap waits_in none
+made-waits ample (call ∷ calls) events quiet (inl (e, rest, is, so, made)) =
+    let both = and_parts (is_quiet_call call) (list_all is_quiet_call calls) quiet in
+    let off : is_wait e ≡ false =
+    sym (same-wait e) ∙ (ap is_wait so ∙ quiet-false (is_wait call) both.0) in
+    let later : waits_in rest ≡ 0 = made-waits ample calls rest both.1 made in
+    let here : waits_in (e ∷ rest) ≡ 0 = rw off later in
+    ap waits_in is ∙ here
+made-waits ample (call ∷ calls) events quiet (inr (lack, made)) =
+    made-waits ample calls events (and_parts (is_quiet_call call) (list_all is_quiet_call calls) quiet).1 made
+
+-- ---- the answer
+
+-- behind a `?` the answer is the inner refusal
+pub on-poller : {T : Type 0} (P : Type 0) (result : Result T OpenError) (e : OpenError) →
+    IsErrAnd result (λ y. y ≡ e) → IfPoller e P → OnPoller result P
+on-poller P (Ok v) e is p = absurd is
+on-poller P (Err y) e is p = let Q : OpenError → Type 0 = λ x. IfPoller x P in subst Q (sym is) p
+
+pub if-poller-by : (P Q : Type 0) (e : OpenError) → (P → Q) → IfPoller e P → IfPoller e Q
+if-poller-by P Q open_err.Poller f p = f p
+if-poller-by P Q open_err.OutOfMemory f p = tt
+if-poller-by P Q (open_err.Exhausted c value) f p = tt
+
+pub on-poller-by : {T : Type 0} (P Q : Type 0) (r : Result T OpenError) → (P → Q) → OnPoller r P → OnPoller r Q
+on-poller-by P Q (Ok v) f p = tt
+on-poller-by P Q (Err e) f p = if-poller-by P Q e f p
+
+-- from a visit's refusal to the call's
+pub from-visit : (P Q : Type 0) (e : ReactError) → (P → Q) → visit.IfPoller e P → IfPoller (open_error e) Q
+from-visit P Q react_err.Poller f p = f p
+from-visit P Q react_err.OutOfMemory f p = tt
+from-visit P Q (react_err.Exhausted c value) f p = tt
