@@ -1,5 +1,6 @@
 -- From a scene that was made of a script to that script.
-use Rattle.std.proofs.Common.{◌≡◌, ℕ, ◌≤◌, Bool, true, false, List, length, Option, Result, Ok, Err, nat_lt, if◌then◌else◌, refl, sym, subst, arith}
+use Rattle.std.proofs.Common.{◌≡◌, ℕ, ◌≤◌, Bool, true, false, List, ◌++◌, length, Option, Some, None, Result, Ok, Err, nat_lt, if◌then◌else◌, refl, sym, ◌∙◌, ap, subst, arith}
+use Rattle.std.proofs.lemmas.List.{append-nil}
 use Rattle.std.specs.Io.KnownBytes.{Consumes, IsAtEnd}
 use Rattle.react_core.specs.declared.outside.Event.{Event}
 use Rattle.bus_script.specs.Script.{Script, Refused, script}
@@ -8,7 +9,7 @@ use Rattle.bus_session.specs.declared.session.Session.{Session}
 use Rattle.bus_scene.specs.declared.from_script.Played.{Played}
 use Rattle.bus_scene.specs.Queues.{Queues, queues}
 use Rattle.bus_scene.specs.Reading.{IsOf}
-use Rattle.bus_open.specs.Run.{ComesTo, FollowFrom, Reads, Plays, PollerFails, RunsOut, ScriptRunsOut}
+use Rattle.bus_open.specs.Run.{ComesTo, FollowFrom, Reads, Plays, PollerFails, ScriptFails, RunsOut, ScriptRunsOut}
 
 -- What comes of the scene and the sessions comes of the script.
 follow_from : (s : Script) (p : Played) (endeds : List Ended) (events : List Event) → IsOf s p → ComesTo p.scene.script p.sessions.items p.rounds endeds events → FollowFrom s endeds events
@@ -52,8 +53,42 @@ plays old new text p endeds events taken whole from comes = record {
 }
 
 -- The scene's answers are the script's.
-pub poller-fails : (s : Script) (p : Played) → IsOf s p → PollerFails p.scene.script → PollerFails (queues (length s.sessions) s.answers)
-poller-fails s p starts fails = subst PollerFails starts.script fails
+pub poller-fails : (s : Script) (p : Played) → IsOf s p → PollerFails p.scene.script p.sessions.items p.rounds →
+    ScriptFails s
+poller-fails s p starts fails = record {
+  rounds = p.rounds;
+  given = sym starts.rounds;
+  fails = subst (λ (q : Queues). PollerFails q s.sessions p.rounds) starts.script
+      (subst (λ (sessions : List Session). PollerFails p.scene.script sessions p.rounds) starts.sessions fails);
+}
 
-pub runs-out : (s : Script) (p : Played) → IsOf s p → RunsOut p.tick p.rounds → ScriptRunsOut s
-runs-out s p starts out = (p.rounds, sym starts.rounds, rw (← starts.tick) out)
+pub runs-out : (s : Script) (p : Played) → IsOf s p → RunsOut p.scene.script p.sessions.items p.tick p.rounds →
+    ScriptRunsOut s
+runs-out s p starts out = record {
+  rounds = p.rounds;
+  given = sym starts.rounds;
+  out = subst (λ (tick : ℕ). RunsOut (queues (length s.sessions) s.answers) s.sessions tick p.rounds) starts.tick
+      (subst (λ (q : Queues). RunsOut q s.sessions p.tick p.rounds) starts.script
+      (subst (λ (sessions : List Session). RunsOut p.scene.script sessions p.tick p.rounds) starts.sessions out));
+}
+
+-- Bytes that were read to their end are those that there were.
+read-all : (bytes : List ℕ) (old new : Option (List ℕ)) (text : List ℕ) → old ≡ Some bytes → Consumes old new text →
+    IsAtEnd new → text ≡ bytes
+read-all bytes old None text holds taken end =
+    let C : Option (List ℕ) → Type 0 = λ o. Consumes o None text in absurd (subst C holds taken)
+read-all bytes old (Some left) text holds taken end =
+    let C : Option (List ℕ) → Type 0 = λ o. Consumes o (Some left) text in
+    let all : bytes ≡ text ++ left = subst C holds taken in
+    sym (all ∙ (ap (λ x. text ++ x) end ∙ append-nil text))
+
+err-not-ok : {X Y : Type 0} (r : X) (s : Y) → Err r ≡ Ok s → ⊥
+err-not-ok r s e = absurd (cc)
+
+-- What was read as a script is no text that is refused.
+pub not-refused : (bytes : List ℕ) (r : Refused) (old new : Option (List ℕ)) (text : List ℕ) (s : Script) →
+    Consumes old new text → (length text ≤ 16777216 → IsAtEnd new) → script text ≡ Ok s → old ≡ Some bytes →
+    script bytes ≡ Err r → ⊥
+not-refused bytes r old new text s taken whole is holds refused =
+    let same : text ≡ bytes = read-all bytes old new text holds taken (whole (is_short text s is)) in
+    err-not-ok r s (sym refused ∙ (ap script (sym same) ∙ is))

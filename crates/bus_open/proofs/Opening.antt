@@ -1,5 +1,5 @@
 -- What the answer of `open_all` over a new scene says of a script.
-use Rattle.std.proofs.Common.{◌≡◌, ℕ, ◌<◌, ◌⊎◌, inl, inr, Some, List, [], ◌++◌, refl, sym, ◌∙◌, ap, subst, arith}
+use Rattle.std.proofs.Common.{◌≡◌, ℕ, false, ◌<◌, ◌⊎◌, inl, inr, Some, List, [], ◌++◌, refl, sym, ◌∙◌, ap, subst, arith}
 use Rattle.std.proofs.lemmas.Option.{same_Some}
 use Rattle.react_core.specs.declared.outside.Event.{Event}
 use Rattle.react_core.specs.Core.{Core}
@@ -16,6 +16,7 @@ use Rattle.bus_scene.specs.Lent.{follows-each}
 use Rattle.react_core.specs.Outer.{LentRoom}
 use Rattle.react_core.specs.declared.outside.Rooms.{Rooms}
 use Rattle.react_core.specs.declared.outside.Rooms.TheVariants as rooms
+use Rattle.bus_record.specs.Failing.{PollerFailed}
 use Rattle.bus_record.specs.Headline.{Headline}
 use Rattle.bus_peers.specs.Headline.{Opened, Exhausts}
 use Rattle.bus_open.specs.Run.{most_reports, FollowsAnswers, ComesTo, PollerFails, RunsOut, status_of}
@@ -43,16 +44,25 @@ comes answers sessions rounds old new endeds start told shown none are follows c
   headline = subst (λ (r : List Event). Headline sessions rounds opens.2.pieces endeds r) (sym (are ∙ (same_Some told (start ++ opens.0) opens.1 ∙ ap (λ t. t ++ opens.0) none))) opens.2.headline;
 }
 
+-- the events that are shown are those that were told
+shown-so : (start told shown r : List Event) → start ≡ [] → shown ≡ told → Some told ≡ with_told (Some start) r →
+    shown ≡ r
+shown-so start told shown r none are gained = are ∙ (same_Some told (start ++ r) gained ∙ ap (λ t. t ++ r) none)
+
 -- where the poller failed
-pub fails : (answers : Queues) (start told shown : List Event) → start ≡ [] → shown ≡ told → FollowsAnswers answers
-    shown → Rose (counted (faults_of_poller start)) (counted (faults_of_poller told)) → PollerFails answers
-fails answers start told shown none are follows rose =
+pub fails : (answers : Queues) (sessions : List Session) (rounds : ℕ) (start told shown : List Event) → start ≡ [] →
+    shown ≡ told → FollowsAnswers answers shown →
+    Rose (counted (faults_of_poller start)) (counted (faults_of_poller told)) →
+    (r : List Event) × (Some told ≡ with_told (Some start) r) × PollerFailed sessions rounds false r →
+    PollerFails answers sessions rounds
+fails answers sessions rounds start told shown none are follows rose cut =
     let rose' : Rose 0 (counted (faults_of_poller shown)) = rw are (subst (λ (r : List Event). Rose (counted (faults_of_poller r)) (counted (faults_of_poller told))) none rose) in
     let some : 0 < faults_of_poller shown = omega (arith, rose') in
     record {
       events = shown;
       follows = follows;
       failed = some;
+      cut = subst (PollerFailed sessions rounds false) (sym (shown-so start told shown cut.0 none are cut.1)) cut.2;
       faulty = λ calm. omega (arith, some, follows_faultless (rooms.Each most_reports) answers shown calm follows);
     }
 
@@ -68,11 +78,21 @@ exhausted-alone open_err.Poller seven = absurd (cc)
 exhausted-alone (open_err.Exhausted c value) seven = (c, value, refl)
 
 -- where the numbers ran out
-pub runs-out : (sessions : List Session) (rounds tick : ℕ) (old : Core) (events : List Event) → old.ticker ≡ tick → Exhausts sessions rounds old events → RunsOut tick rounds
-runs-out sessions rounds tick old events starts exhausts =
-    let last = exhausts.last in
-    let left = exhausts.left in
-    omega (arith, last, left, starts)
+pub runs-out : (answers : Queues) (sessions : List Session) (rounds tick : ℕ) (old : Core)
+    (start told shown : List Event) → start ≡ [] → shown ≡ told → FollowsAnswers answers shown → old.ticker ≡ tick →
+    (r : List Event) × (Some told ≡ with_told (Some start) r) × Exhausts sessions rounds false old r →
+    RunsOut answers sessions tick rounds
+runs-out answers sessions rounds tick old start told shown none are follows begins out =
+    let last = out.2.last in
+    let left = out.2.left in
+    record {
+      events = shown;
+      follows = follows;
+      start = old;
+      begins = begins;
+      exhausts = subst (Exhausts sessions rounds false old) (sym (shown-so start told shown out.0 none are out.1)) out.2;
+      beyond = omega (arith, last, left, begins);
+    }
 
 pub one-of : (e : OpenError) → (status_of e ≡ 0) ⊎ (status_of e ≡ 1) ⊎ (status_of e ≡ 4) ⊎ (status_of e ≡ 5) ⊎ (status_of e ≡ 6) ⊎ (status_of e ≡ 7)
 one-of open_err.OutOfMemory = inr (inr (inr (inl refl)))

@@ -16,6 +16,9 @@ use Rattle.bus_peers.specs.declared.open.OpenError.TheVariants as open_err
 use Rattle.bus_session.specs.declared.session.Session.{Session}
 use Rattle.bus_record.specs.Pieces.{Pieces}
 use Rattle.bus_record.specs.Headline.{Headline}
+use Rattle.bus_record.specs.Failing.{PollerFailed}
+use Rattle.bus_peers.specs.Headline.{Exhausts}
+use Rattle.react_core.specs.Core.{Core}
 use Rattle.bus_script.specs.Printed.{printed}
 use Rattle.bus_check.specs.declared.kind.Kind.{Kind}
 use Rattle.bus_check.specs.Says.{Says}
@@ -83,20 +86,36 @@ pub data Results (words : List (List ℕ)) (old new : Option (List ℕ)) : Bool 
   checked : (kind : Kind) (well : Bool) (text : List ℕ) → asked words ≡ Ok (Check kind) → Keeps old new →
       Says kind (checked_text words) well text → Results words old new well text
 
--- A call of the poller failed, as an answer of the script has it.
-pub record PollerFails (answers : Queues) : Type 0 where
+-- A call of the poller failed, as an answer has it: the record of these sessions over a new scene follows from the
+-- answers up to that call, which cut it off, and the removals behind it. A scene may lack memory.
+pub record PollerFails (answers : Queues) (sessions : List Session) (rounds : ℕ) : Type 0 where
   pub events : List Event
   pub follows : FollowsAnswers answers events
   pub failed : 0 < faults_of_poller events
+  pub cut : PollerFailed sessions rounds false events
   pub faulty : ¬ HasNoPollerFault answers
 
--- The numbers of the rounds run out: the last one is 2 ^ 64 - 1.
-abbrev pub RunsOut : ℕ → ℕ → Type 0
-RunsOut tick rounds = 2 ^ 64 - 1 < tick + rounds
+-- the same of a script
+pub record ScriptFails (s : Script) : Type 0 where
+  pub rounds : ℕ
+  pub given : s.rounds ≡ Some rounds
+  pub fails : PollerFails (queues (length s.sessions) s.answers) s.sessions rounds
 
--- The script's rounds, begun behind its tick, run out of numbers.
-abbrev pub ScriptRunsOut : Script → Type 0
-ScriptRunsOut s = (rounds : ℕ) × (s.rounds ≡ Some rounds) × RunsOut (start_of s.start).tick rounds
+-- The numbers of the rounds run out, the last of which is 2 ^ 64 - 1: a session slept and a round was left, but the
+-- next one had no number. The record up to there follows from the answers.
+pub record RunsOut (answers : Queues) (sessions : List Session) (tick rounds : ℕ) : Type 0 where
+  pub events : List Event
+  pub follows : FollowsAnswers answers events
+  pub start : Core
+  pub begins : start.ticker ≡ tick
+  pub exhausts : Exhausts sessions rounds false start events
+  pub beyond : 2 ^ 64 - 1 < tick + rounds
+
+-- the same of a script, whose rounds are begun behind its tick
+pub record ScriptRunsOut (s : Script) : Type 0 where
+  pub rounds : ℕ
+  pub given : s.rounds ≡ Some rounds
+  pub out : RunsOut (queues (length s.sessions) s.answers) s.sessions (start_of s.start).tick rounds
 
 -- the status of a refusal of `open_all`
 abbrev pub status_of : OpenError → ℕ

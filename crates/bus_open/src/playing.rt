@@ -1,18 +1,17 @@
 //! Playing a script: its sessions are opened over its scene, and the endings and the events are written.
 
-ghost use Rattle.std.specs.Prelude.{◌≡◌, ◌≢◌, ◌≤◌, ◌<◌, ◌^◌, ◌⊎◌, [], ℕ, List, length, true, false};
+ghost use Rattle.std.specs.Prelude.{◌≡◌, ◌≢◌, ◌≤◌, ◌<◌, ◌^◌, ◌⊎◌, [], ℕ, List, length, true, false, Some, Err};
 ghost use Rattle.std.specs.List.{list_all};
 ghost use Rattle.std.specs.Io.KnownBytes.{Appends, Keeps};
 ghost use Rattle.react_core.specs.Told.{Rose};
 ghost use Rattle.react_core.specs.declared.outside.Event.{Event};
 ghost use Rattle.react_core.specs.declared.outside.Rooms.TheVariants as rooms;
-ghost use Rattle.bus_script.specs.Script.{Script, Refused};
+ghost use Rattle.bus_script.specs.Script.{Script, Refused, script};
 ghost use Rattle.bus_script.specs.Printed.{printed, refusal};
 ghost use Rattle.bus_session.specs.declared.ended.Ended.{Ended};
-ghost use Rattle.bus_scene.specs.Queues.{queues};
 ghost use Rattle.bus_session.specs.Sessions.{is_built};
 ghost use Rattle.bus_open.specs.Streams.{GainsFront, GainsOrFails, LosesFront};
-ghost use Rattle.bus_open.specs.Run.{ComesTo, Plays, Reads, PollerFails, RefusesScript, RunsOut, ScriptRunsOut};
+ghost use Rattle.bus_open.specs.Run.{ComesTo, Plays, Reads, PollerFails, ScriptFails, RefusesScript, RunsOut, ScriptRunsOut};
 ghost use Rattle.bus_open.specs.Run.{all_open, is_open, status_of};
 
 use crate::refusal::refuse;
@@ -102,8 +101,12 @@ fn perform<K: Sink>(alloc: Global, sink: &mut K, played: Played) -> u8
         × Rose (K.write_faults sink.old) (K.write_faults sink.new)
         × GainsFront (K.held sink.old) (K.held sink.new) (printed endeds r) }
     ensures nothing { result ≡ 5 → Keeps (K.held sink.old) (K.held sink.new) }
-    ensures poller { result ≡ 6 → PollerFails played.scene.script × Keeps (K.held sink.old) (K.held sink.new) }
-    ensures exhausted { result ≡ 7 → RunsOut played.tick played.rounds × Keeps (K.held sink.old) (K.held sink.new) }
+    ensures poller { result ≡ 6 →
+        PollerFails played.scene.script played.sessions.items played.rounds
+        × Keeps (K.held sink.old) (K.held sink.new) }
+    ensures exhausted { result ≡ 7 →
+        RunsOut played.scene.script played.sessions.items played.tick played.rounds
+        × Keeps (K.held sink.old) (K.held sink.new) }
 {
     let Played {
         mut scene,
@@ -143,6 +146,11 @@ pub(crate) fn play<S: Source, K: Sink>(alloc: Global, source: &mut S, sink: &mut
         × GainsOrFails (K.held sink.old) (K.held sink.new) (K.write_faults sink.old) (K.write_faults sink.new)
         (refusal refused.line refused.reason) }
 
+    // A script that the source holds, and that is none, is refused, where neither the source nor memory fails.
+    ensures refused_script { (text : List ℕ) (refused : Refused) →
+        S.left source.old ≡ Some text → script text ≡ Err refused →
+        (result ≡ 2) ⊎ (result ≡ 3) ⊎ (result ≡ 5) }
+
     // The source failed, and nothing was written.
     ensures read_fault { result ≡ 3 →
         Rose (S.read_faults source.old) (S.read_faults source.new)
@@ -160,7 +168,7 @@ pub(crate) fn play<S: Source, K: Sink>(alloc: Global, source: &mut S, sink: &mut
     // A call of the poller failed, as an answer of the script has it, and nothing was written.
     ensures poller { result ≡ 6 →
         (s : Script) × Reads (S.left source.old) (S.left source.new) s
-        × PollerFails (queues (length s.sessions) s.answers) × Keeps (K.held sink.old) (K.held sink.new) }
+        × ScriptFails s × Keeps (K.held sink.old) (K.held sink.new) }
 
     // The numbers of the rounds ran out, and nothing was written.
     ensures exhausted { result ≡ 7 →

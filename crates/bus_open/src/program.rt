@@ -1,15 +1,14 @@
 //! The program: words and what they ask to be read in, results and a status out.
 
-ghost use Rattle.std.specs.Prelude.{◌≡◌, ◌≢◌, ◌≤◌, ◌⊎◌, ℕ, Bool, List, length, true, false, map, string_bytes, Ok, Err};
+ghost use Rattle.std.specs.Prelude.{◌≡◌, ◌≢◌, ◌≤◌, ◌⊎◌, ℕ, Bool, List, length, true, false, map, string_bytes, Some, Ok, Err};
 ghost use Rattle.std.specs.Io.KnownBytes.{Appends, Keeps};
 ghost use Rattle.react_core.specs.Told.{Rose};
-ghost use Rattle.bus_script.specs.Script.{Script, Refused};
+ghost use Rattle.bus_script.specs.Script.{Script, Refused, script};
 ghost use Rattle.bus_script.specs.Printed.{refusal};
 ghost use Rattle.bus_script.specs.declared.line.Reason.{Reason};
-ghost use Rattle.bus_scene.specs.Queues.{queues};
 ghost use Rattle.bus_open.specs.Streams.{GainsFront, GainsOrFails, LosesFront};
 ghost use Rattle.bus_open.specs.Commands.{asked};
-ghost use Rattle.bus_open.specs.Run.{Results, Reads, PollerFails, ScriptRunsOut, IsRefused};
+ghost use Rattle.bus_open.specs.Run.{Results, Reads, ScriptFails, ScriptRunsOut, IsRefused};
 ghost use Rattle.bus_open.specs.declared.command.Command.TheVariants.{Play};
 
 use crate::checking::check_text;
@@ -52,6 +51,11 @@ pub fn run<S: Source, K: Sink, O: Outside>(
     ensures refused_words { (reason : Reason) →
         asked (map string_bytes words.now) ≡ Err reason → (result ≡ 2) ⊎ (result ≡ 5) }
 
+    // A script that the source holds, and that is none, is refused, where neither the source nor memory fails.
+    ensures refused_script { (text : List ℕ) (refused : Refused) →
+        asked (map string_bytes words.now) ≡ Ok Play → S.left source.old ≡ Some text → script text ≡ Err refused →
+        (result ≡ 2) ⊎ (result ≡ 3) ⊎ (result ≡ 5) }
+
     // The source failed, and nothing was written.
     ensures read_fault { result ≡ 3 →
         (asked (map string_bytes words.now) ≡ Ok Play)
@@ -68,13 +72,14 @@ pub fn run<S: Source, K: Sink, O: Outside>(
     // Memory ran out, and nothing was written.
     ensures memory { result ≡ 5 → Keeps (K.held sink.old) (K.held sink.new) }
 
-    // A call of the poller failed, as an answer of the script has it, and nothing was written.
+    // A call of the poller failed, as an answer of the script has it: the record follows from the script up to that
+    // call and the removals behind it. Nothing was written.
     ensures poller { result ≡ 6 →
         (asked (map string_bytes words.now) ≡ Ok Play)
         × ((s : Script) × Reads (S.left source.old) (S.left source.new) s
-        × PollerFails (queues (length s.sessions) s.answers) × Keeps (K.held sink.old) (K.held sink.new)) }
+        × ScriptFails s × Keeps (K.held sink.old) (K.held sink.new)) }
 
-    // The numbers of the rounds ran out, and nothing was written.
+    // The numbers of the rounds ran out where one more was due, and nothing was written.
     ensures exhausted { result ≡ 7 →
         (asked (map string_bytes words.now) ≡ Ok Play)
         × ((s : Script) × Reads (S.left source.old) (S.left source.new) s

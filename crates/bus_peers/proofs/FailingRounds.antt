@@ -72,8 +72,13 @@ round-fails sessions rounds n ample start before r0 r1 old new slots r rearmed p
           ∙ (ap (told r0) (sym says)
           ∙ (ap (λ y. told y (pieces.events_of (round p))) g.gained
           ∙ told-told before (pieces.told past) (pieces.events_of (round p))));
-      ticker = omega (arith, x.ticker, stands-ticker g, one,
-          waits_in-append (pieces.told past) (pieces.events_of (round p)));
+      ticker = omega (
+        arith,
+        x.ticker,
+        stands-ticker g,
+        one,
+        waits_in-append (pieces.told past) (pieces.events_of (round p)),
+      );
     })
 
 pub going-round-fails : (ample : Bool) (r0 r1 : Option (List Event)) (old new : Core) (slots : List Slot) →

@@ -686,7 +686,7 @@ later-visits s wire past r0 r1 old new sl pending c h h' calls o built shows is 
     let late : has_reached s.deadline (moment wire past) ≡ false =
     none-reached s.deadline (moment wire past) (built-late s built) in
     let comes : outcome_of false begin
-        ≡ Some (record { ending = ending.Waiting; written = sl.client.written; leftover = sl.client.rest }) =
+    ≡ Some (record { ending = ending.Waiting; written = sl.client.written; leftover = sl.client.rest }) =
     ap (λ l. outcome_of l begin) (sym late)
     ∙ (sym (ap (option_and_then (outcome_of (has_reached s.deadline (moment wire past)))) is.talking.through)
     ∙ is.comes) in

@@ -363,7 +363,7 @@ turns-failed wire key dir r0 r2 r3 old mid c c2 f (h, h', calls, o, t, armed) =
     let T : Option (List Event) → Type 0 =
     λ x. Turned wire key r0 x old f.would c c2 turn_end.Asleep h h' calls o in
     let good : told r2 (event.Modify wire key f.read f.write true ∷ [])
-        ≡ told r0 (calls ++ event.Modify wire key f.read f.write true ∷ []) =
+    ≡ told r0 (calls ++ event.Modify wire key f.read f.write true ∷ []) =
     t.gained ∙ ap (λ x. told r0 (calls ++ x)) armed in
     record {
       would = f.would;

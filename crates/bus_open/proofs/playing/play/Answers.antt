@@ -1,7 +1,7 @@
 use Rattle.std.proofs.Common.{◌≡◌, Ok}
 use Rattle.bus_script.specs.Script.{Script, script}
 use Rattle.bus_scene.specs.Reading.{IsOf}
-use Rattle.bus_open.proofs.Following.{plays, reads, poller-fails, runs-out}
+use Rattle.bus_open.proofs.Following.{plays, reads, poller-fails, runs-out, not-refused}
 use Rattle.bus_open.proofs.playing.play.Goals as goal
 
 pub returns-in-Ok-from_script-clause-opened : goal.returns-in-Ok-from_script-clause-opened
@@ -66,3 +66,11 @@ returns-in-Ok-from_script-clause-exhausted g c = λ seven.
       runs-out from.0 c.in-Ok-from_script.played from.2 out.0,
       out.1,
     )
+
+pub returns-in-Ok-from_script-clause-refused_script : goal.returns-in-Ok-from_script-clause-refused_script
+returns-in-Ok-from_script-clause-refused_script g c = λ text refused holds is.
+    let from : (s : Script) × (script c.in-Ok.text.items ≡ Ok s) × IsOf s c.in-Ok-from_script.played =
+    rw (← c.as_slice.ensures.value) c.in-Ok-from_script.ensures.script in
+    absurd
+    (not-refused text refused (g.S.Source.left c.args.source.now) (g.S.Source.left c.read_all.new.source)
+    c.in-Ok.text.items from.0 c.in-Ok.ensures.bytes c.in-Ok.ensures.end from.1 holds is)
