@@ -1,5 +1,6 @@
 mod Computes
 mod RowProofs
+mod FailingRowProofs
 mod RunLemmas
 mod RefusalProofs
 mod Unique

@@ -6,7 +6,7 @@ use Rattle.bus_record.specs.Settled.{start, visited, turned}
 use Rattle.bus_record.specs.Rows as row
 use Rattle.bus_record.proofs.Computes.{computes}
 
-cons-not-nil : {A : Type 0} (x : A) (xs : List A) → x ∷ xs ≡ [] → ⊥
+pub cons-not-nil : {A : Type 0} (x : A) (xs : List A) → x ∷ xs ≡ [] → ⊥
 cons-not-nil x xs e = cc
 
 reported-not-failed : (reports : List Report) → wait_answer.Reported reports ≡ wait_answer.Failed → ⊥

@@ -6,5 +6,6 @@ pub mod Settled
 pub mod Headline
 pub mod Failing
 pub mod Rows
+pub mod FailingRows
 pub mod Refusals
 pub mod Laws

@@ -4,6 +4,7 @@ ghost use Rattle.bus_record.specs.Laws.{OneCutting, PartsInPieces, WaitsWhereLef
 ghost use Rattle.bus_record.specs.Laws.{EachComesToSomething, PausesLittle};
 ghost use Rattle.bus_record.specs.Rows.{BothOpen, BothPromised, OneWaits, WireComesFirst, LateAtOnce, ReachedInRound};
 ghost use Rattle.bus_record.specs.Rows.{MissedInRound, WrongDirection, EasilyMissed, Servers, FurtherRounds};
+ghost use Rattle.bus_record.specs.FailingRows.{SmallFailures, RefusedFailures};
 ghost use Rattle.bus_record.specs.Refusals.{RefusedVisits, RefusedEndings, RefusedRuns};
 
 use bus_session::Session;
@@ -67,6 +68,13 @@ pub fn small_records_are_settled()
     ensures easily_missed { EasilyMissed }
     ensures servers { Servers }
     ensures further_rounds { FurtherRounds }
+{}
+
+/// Small records that a failing call of the poller cut off: a registration, an arming, a wait, an arming of a round, a
+/// removal.
+pub fn small_records_are_cut_off()
+    ensures failures { SmallFailures }
+    ensures refused { RefusedFailures }
 {}
 
 /// Small records that are not.
