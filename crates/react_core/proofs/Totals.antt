@@ -1,5 +1,5 @@
 -- What holds of each value of a list by keys, and sums of them.
-use Rattle.std.proofs.Common.{◌≡◌, ◌+◌, ℕ, Bool, true, false, List, [], ◌∷◌, Some, None, length, refl, sym, ap, ◌∙◌, subst, inl, inr, arith}
+use Rattle.std.proofs.Common.{◌≡◌, ◌+◌, ℕ, Bool, true, false, List, [], ◌∷◌, Option, Some, None, is_some, length, refl, sym, ap, ◌∙◌, subst, inl, inr, arith}
 use Rattle.std.proofs.lemmas.Bool.{cases_eq}
 use Rattle.std.proofs.lemmas.Bool.Decides.{nat_tests}
 use Rattle.std.specs.Prelude.{◌==◌, nat_lt, if◌then◌else◌}
@@ -41,6 +41,20 @@ module _ {T : Type 0} where
             let rest = length-without_held xs key old (sym (at_key-later x xs key differs) ∙ found) in
             grind (arith, nat_tests, differs, rest)
       ]
+
+  some-value : (o : Option T) → is_some o ≡ true → (x : T) × (o ≡ Some x)
+  some-value None some = absurd (cc)
+  some-value (Some x) some = (x, refl)
+
+  no-value : (o : Option T) → is_some o ≡ false → o ≡ None
+  no-value None none = refl
+  no-value (Some x) none = absurd (cc)
+
+  pub length-without_some : (xs : List (ℕ × T)) (key : ℕ) → is_some (at_key xs key) ≡ true → length (without_at xs key) + 1 ≡ length xs
+  length-without_some xs key some = let old = some-value (at_key xs key) some in length-without_held xs key old.0 old.1
+
+  pub without_at-none : (xs : List (ℕ × T)) (key : ℕ) → is_some (at_key xs key) ≡ false → without_at xs key ≡ xs
+  without_at-none xs key none = without_at-absent xs key (no-value (at_key xs key) none)
 
 -- ---- sums
 

@@ -156,11 +156,5 @@ fn take_report<R: Registrar>(
         return Ok(());
     };
     source.mark(ticker, report, hands);
-    let read = source.read.waits();
-    let write = source.write.waits();
-    if !read && !write {
-        return Ok(());
-    }
-    // An arming names all directions of its key in place of those that it named before.
-    registrar.modify(source.wire, report.key, read, write)
+    source.arm(registrar, report.key)
 }

@@ -1,5 +1,5 @@
 //! Sources, and the table that holds them by their keys.
-ghost use Rattle.std.specs.Prelude.{◌≡◌, ◌+◌, ◌++◌, ◌*◌, ◌≤◌, ◌<◌, ◌^◌, None, Some, IfOk, IfSome, OnOk, length, vec_len};
+ghost use Rattle.std.specs.Prelude.{◌≡◌, ◌+◌, ◌++◌, ◌*◌, ◌≤◌, ◌<◌, ◌^◌, false, None, Some, IfOk, IfSome, OnOk, length, vec_len};
 ghost use Rattle.std.specs.Prelude.{vec_capacity};
 ghost use Rattle.std.specs.Borrow.{sem};
 ghost use Rattle.slab.specs.Slab.{entries, HasRoomFor};
@@ -7,7 +7,7 @@ ghost use Rattle.react_core.specs.Sources.{source_of, with_new, without, places_
 ghost use Rattle.react_core.specs.Sources.{IsDatedSource};
 
 use crate::interest::{Arming, Interest};
-use crate::outside::{OutOfMemory, Report};
+use crate::outside::{Fault, OutOfMemory, Registrar, Report};
 use crate::reactor::Dir;
 use slab::Slab;
 use std::alloc::Global;
@@ -92,6 +92,31 @@ impl Source {
     {
         self.write.mark(report.write, ticker, hands);
         self.read.mark(report.read, ticker, hands);
+    }
+}
+
+impl Source {
+    ghost use Rattle.react_core.specs.Outer.{Keeps};
+    ghost use Rattle.react_core.specs.Outer as part;
+    ghost use Rattle.react_core.specs.Reports.{arming_of, tries_told, tries_of, AnswersArming};
+    ghost use Rattle.react_core.specs.Told.{told, Counted, OnLack};
+
+    /// Asks the poller for all directions that a task waits for, where there is one.
+    pub(crate) fn arm<R: Registrar>(&self, registrar: &mut R, key: usize) -> Result<(), Fault>
+        ensures told { (R.outer registrar.new).events ≡ told (R.outer registrar.old).events
+            (tries_told (tries_of (arming_of key self.now) result)) }
+        ensures answers { AnswersArming (arming_of key self.now) result }
+        ensures memory { OnLack result ((R.outer registrar.old).ample ≡ false) }
+        ensures cause { Counted result (R.outer registrar.old).poller_faults (R.outer registrar.new).poller_faults }
+        ensures keeps { Keeps part.Poller (R.outer registrar.old) (R.outer registrar.new) }
+    {
+        let read = self.read.waits();
+        let write = self.write.waits();
+        if !read && !write {
+            return Ok(());
+        }
+        // An arming names all directions of its key in place of those that it named before.
+        registrar.modify(self.wire, key, read, write)
     }
 }
 
