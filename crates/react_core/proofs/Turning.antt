@@ -3,6 +3,7 @@ use Rattle.std.proofs.Common.{◌≡◌, ◌+◌, ◌-◌, ◌≤◌, ℕ, Bool,
 use Rattle.slab.specs.Slab.{Slab, entries, get, with_value}
 use Rattle.react_core.specs.declared.reactor.Dir.{Dir}
 use Rattle.react_core.specs.declared.reactor.Dir.TheVariants.{Read, Write}
+use Rattle.react_core.specs.Core.{Core, ReactorState}
 use Rattle.react_core.specs.Keyed.{at_key}
 use Rattle.react_core.specs.Places.{Entry, Direction, Source}
 use Rattle.react_core.specs.Sources.{source_of, with_source, side, with_side, all_places, IsDated, IsDatedSource, AllDated}
@@ -19,6 +20,13 @@ with_side-same Write s = refl
 -- the sources of a table, after this direction of the source under a key was written
 abbrev pub turned : Slab Source → ℕ → Source → Dir → Direction → List (ℕ × Source)
 turned table key s dir d = entries (with_value table key (with_side dir s d))
+
+abbrev whole : Core → ℕ → ReactorState
+whole core events = record { core = core; events = events }
+
+-- a reactor whose core is this, by its parts
+pub state-is : (old : ReactorState) (core next : Core) (events : ℕ) (new : ReactorState) → new ≡ whole core events → core ≡ next → events ≡ old.events → new ≡ record old { core = next }
+state-is old core next events new is are stay = is ∙ ap (λ k. whole k events) are ∙ ap (whole next) stay
 
 module _ (table : Slab Source) (key : ℕ) (s : Source) (dir : Dir) (at : Some s ≡ get table key) where
   pub found-at : source_of (entries table) key ≡ Some s
@@ -43,3 +51,7 @@ module _ (table : Slab Source) (key : ℕ) (s : Source) (dir : Dir) (at : Some s
   dated-turned ticker d dated one =
       let here = Each-at_key (IsDatedSource ticker) (entries table) key s dated found-at in
       rw (turned-is d) (Each-with_at (IsDatedSource ticker) (entries table) key (with_side dir s d) dated (dated-with_side ticker dir s d here one))
+
+  -- a direction that a function of it was written to
+  pub turned-to : (f : Direction → Direction) (d next : Direction) → d ≡ side dir s → next ≡ f d → turned table key s dir next ≡ with_source (entries table) key (with_side dir s (f (side dir s)))
+  turned-to f d next is to = turned-is next ∙ ap (λ x. with_source (entries table) key (with_side dir s x)) (to ∙ ap f is)
