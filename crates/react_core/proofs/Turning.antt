@@ -1,14 +1,17 @@
 -- A direction of a source in the table is looked up, and written back.
 use Rattle.std.proofs.Common.{◌≡◌, ◌+◌, ◌-◌, ◌≤◌, ℕ, Bool, true, false, List, Option, Some, None, is_some, length, refl, sym, ap, ◌∙◌, subst, arith}
+use Rattle.std.proofs.lemmas.Bool.Decides.{nat_tests}
+use Rattle.std.specs.Prelude.{◌==◌, if◌then◌else◌}
 use Rattle.slab.specs.Slab.{Slab, entries, get, with_value}
 use Rattle.react_core.specs.declared.reactor.Dir.{Dir}
 use Rattle.react_core.specs.declared.reactor.Dir.TheVariants.{Read, Write}
 use Rattle.react_core.specs.Core.{Core, ReactorState}
+use Rattle.react_core.specs.Futures.{direction_of}
 use Rattle.react_core.specs.Keyed.{at_key}
 use Rattle.react_core.specs.Places.{Entry, Direction, Source}
 use Rattle.react_core.specs.Sources.{source_of, with_source, side, with_side, all_places, IsDated, IsDatedSource, AllDated}
 use Rattle.react_core.proofs.Dated.{dated-side, dated-with_side}
-use Rattle.react_core.proofs.Keyed.{length-with_at}
+use Rattle.react_core.proofs.Keyed.{length-with_at, at_key-with_at}
 use Rattle.react_core.proofs.Looking.{found-in, written-in}
 use Rattle.react_core.proofs.Places.{places-side}
 use Rattle.react_core.proofs.Totals.{with_at-same, Each-at_key, Each-with_at}
@@ -55,3 +58,17 @@ module _ (table : Slab Source) (key : ℕ) (s : Source) (dir : Dir) (at : Some s
   -- a direction that a function of it was written to
   pub turned-to : (f : Direction → Direction) (d next : Direction) → d ≡ side dir s → next ≡ f d → turned table key s dir next ≡ with_source (entries table) key (with_side dir s (f (side dir s)))
   turned-to f d next is to = turned-is next ∙ ap (λ x. with_source (entries table) key (with_side dir s x)) (to ∙ ap f is)
+
+  -- what stands there then
+  pub direction-turned : (d : Direction) → direction_of (source_of (turned table key s dir d) key) dir ≡ d
+  direction-turned d =
+      let there = at_key-with_at (entries table) key key (with_side dir s d) (ap is_some found-at) in
+      let here : source_of (turned table key s dir d) key ≡ Some (with_side dir s d) = ap (λ ss. source_of ss key) (turned-is d) ∙ there ∙ same-key key (Some (with_side dir s d)) _ in
+      ap (λ o. direction_of o dir) here ∙ side-with dir
+    where
+      same-key : (k : ℕ) (x y : Option Source) → (if k == k then x else y) ≡ x
+      same-key k x y = grind (arith, nat_tests)
+
+      side-with : (e : Dir) → side e (with_side e s d) ≡ d
+      side-with Read = refl
+      side-with Write = refl

@@ -38,6 +38,17 @@ pub struct Waiting {
 impl Waiting {
     ghost use Rattle.react_core.specs.Ticks.{entry_of, IsTied};
 
+    /// An interest that begins when this round had been begun last and the direction's tick is this.
+    fn begun(ticker: u64, tick: u64, task: u64) -> Waiting
+        ensures { result ≡ record { since = ticker; seen = tick; task = Some task } }
+    {
+        Waiting {
+            since: ticker,
+            seen: tick,
+            task: Some(task),
+        }
+    }
+
     /// Whether a round that was begun after the interest has reported the direction, whose tick this is.
     fn is_fresh(&self, tick: u64) -> bool
         requires { IsTied tick self.now }
@@ -207,11 +218,7 @@ impl Interest {
         requires { round_number self.old.reported ≤ ticker }
         ensures { self.new ≡ record self.old { polled = Some (record { since = ticker; task = Some task }) } }
     {
-        self.polled = Some(Waiting {
-            since: ticker,
-            seen: self.tick,
-            task: Some(task),
-        });
+        self.polled = Some(Waiting::begun(ticker, self.tick, task));
     }
 
     /// Asks whether the direction is ready, for a task that is to be woken otherwise. `arming` is of this direction and
@@ -326,16 +333,14 @@ impl Interest {
             return Err(ReactError::OutOfMemory);
         }
         self.ask(registrar, arming)?;
-        Ok(self.futures.insert_reserved(Waiting {
-            since: ticker,
-            seen: self.tick,
-            task: Some(task),
-        }))
+        let waiting = Waiting::begun(ticker, self.tick, task);
+        Ok(self.futures.insert_reserved(waiting))
     }
 
     /// Takes the future out that holds this place. Answers whether one does.
     pub(crate) fn cancel(&mut self, place: usize) -> bool
         ensures held { result ≡ is_some (at_key self.old.futures place) }
+        ensures gone { at_key self.new.futures place ≡ None }
         ensures direction { self.new ≡ without_future self.old place }
     {
         let Some(waiting) = self.futures.try_remove(place) else {

@@ -360,6 +360,7 @@ impl Reactor {
     ghost use Rattle.react_core.specs.Core.{HasSource};
     ghost use Rattle.react_core.specs.Futures.{after_future_poll, cancelled, direction_at, futures_at, future_fresh};
     ghost use Rattle.react_core.specs.Futures.{entry_given, future_told, held_place, IsPolledAt, IsFutureRefusal};
+    ghost use Rattle.react_core.specs.Keyed.{at_key};
     ghost use Rattle.react_core.specs.Readiness.{is_ready};
     ghost use Rattle.react_core.specs.Step.{Step, FuturePoll, Cancel, Polled, Done};
 
@@ -423,6 +424,8 @@ impl Reactor {
     /// Takes the future out that holds this place for a direction of the source under this key, where one does. It
     /// wakes nobody, and the poller isn't asked.
     pub fn cancel_future(&mut self, key: usize, dir: Dir, place: usize)
+        ensures gone { at_key (futures_at self.new.core key dir) place ≡ None }
+        ensures absent { at_key (futures_at self.old.core key dir) place ≡ None → self.new ≡ self.old }
         ensures core { self.new ≡ record self.old { core = cancelled self.old.core key dir place } }
         ensures steps { CoreSteps self.old.core self.new.core }
         ensures step { HasSource self.old.core key →

@@ -1,6 +1,7 @@
 use Rattle.std.proofs.Common.{◌≡◌, ◌∙◌, sym, ap, is_some, true, false, Some, None, refl}
 use Rattle.std.specs.Prelude.{not}
 use Rattle.slab.specs.Slab.{get}
+use Rattle.react_core.specs.Ticks.{place_of}
 use Rattle.react_core.proofs.Holding.{counts-gone_taken, counts-gone_waiting, tied-gone, held-entry, entries-gone, at_key-futures_in}
 use Rattle.react_core.proofs.interest.Interest.cancel.Goals as goal
 
@@ -42,3 +43,12 @@ returns-else-is_none-clause-held c = rw (← c.self.view_is, held-entry c.self.i
 
 pub returns-else-is_none-clause-direction : goal.returns-else-is_none-clause-direction
 returns-else-is_none-clause-direction c = rw (← c.self.view_is, entries-gone c.self.inside.futures c.try_remove.new.self c.args.place c.try_remove.ensures.updates) refl
+
+pub returns-in_default-clause-gone : goal.returns-in_default-clause-gone
+returns-in_default-clause-gone c = at_key-futures_in c.try_remove.new.self c.args.place ∙ ap place_of c.try_remove.ensures.updates.changed
+
+pub returns-then-is_none-clause-gone : goal.returns-then-is_none-clause-gone
+returns-then-is_none-clause-gone c = at_key-futures_in c.try_remove.new.self c.args.place ∙ ap place_of c.try_remove.ensures.updates.changed
+
+pub returns-else-is_none-clause-gone : goal.returns-else-is_none-clause-gone
+returns-else-is_none-clause-gone c = at_key-futures_in c.try_remove.new.self c.args.place ∙ ap place_of c.try_remove.ensures.updates.changed

@@ -2,16 +2,18 @@ use Rattle.std.proofs.Common.{◌≡◌, ◌∙◌, sym, ap, refl, Some, None, [
 use Rattle.std.specs.Option.{option_copied_mut}
 use Rattle.slab.specs.Slab.{entries}
 use Rattle.react_core.specs.Core.{ReactorState}
-use Rattle.react_core.specs.Futures.{without_future}
+use Rattle.react_core.specs.Futures.{without_future, direction_of}
 use Rattle.react_core.specs.Keyed.{at_key}
 use Rattle.react_core.specs.Places.{Direction}
 use Rattle.react_core.specs.Sources.{side}
 use Rattle.react_core.specs.Step.{Cancel, Done}
 use Rattle.react_core.specs.Steps.{one-step}
 use Rattle.react_core.proofs.Dated.{dated-without_future}
+use Rattle.react_core.specs.contracts.reactor.Reactor.{the_view}
+use Rattle.react_core.proofs.Futures.{direction-at}
 use Rattle.react_core.proofs.Looking.{found-in}
 use Rattle.react_core.proofs.Totals.{length-without_some, without_at-none}
-use Rattle.react_core.proofs.Turning.{found-at, turned-is, turned-same, length-turned, places-turned, dated-at, dated-turned}
+use Rattle.react_core.proofs.Turning.{found-at, turned-is, turned-same, direction-turned, length-turned, places-turned, dated-at, dated-turned}
 use Rattle.react_core.proofs.reactor.Reactor.cancel_future.Goals as goal
 
 pub returns-in_default-clause-core : goal.returns-in_default-clause-core
@@ -92,3 +94,33 @@ returns-else-cancel-clause-steps c =
     let at = ap option_copied_mut (sym c.in-Some.is) ∙ c.get_mut.follows in
     one-step (Cancel c.args.key c.args.dir c.args.place) Done []
     (returns-else-cancel-clause-step c (rw (← c.self.view_is, found-at c.self.inside.sources c.args.key c.in-Some.source.now c.args.dir at) refl))
+
+pub returns-in_default-clause-gone : goal.returns-in_default-clause-gone
+returns-in_default-clause-gone c =
+    let absent = found-in c.self.inside.sources c.args.key None (ap option_copied_mut (sym c.in_default.is) ∙ c.get_mut.follows) in
+    ap (λ o. at_key (direction_of o c.args.dir).futures c.args.place) absent
+
+pub returns-then-cancel-clause-gone : goal.returns-then-cancel-clause-gone
+returns-then-cancel-clause-gone c =
+    let at = ap option_copied_mut (sym c.in-Some.is) ∙ c.get_mut.follows in
+    ap (λ (d : Direction). at_key d.futures c.args.place) (direction-turned c.self.inside.sources c.args.key c.in-Some.source.now c.args.dir at c.cancel.new.self) ∙ c.cancel.ensures.gone
+
+pub returns-else-cancel-clause-gone : goal.returns-else-cancel-clause-gone
+returns-else-cancel-clause-gone c =
+    let at = ap option_copied_mut (sym c.in-Some.is) ∙ c.get_mut.follows in
+    ap (λ (d : Direction). at_key d.futures c.args.place) (direction-turned c.self.inside.sources c.args.key c.in-Some.source.now c.args.dir at c.cancel.new.self) ∙ c.cancel.ensures.gone
+
+pub returns-then-cancel-clause-absent : goal.returns-then-cancel-clause-absent
+returns-then-cancel-clause-absent c absent =
+    let at = ap option_copied_mut (sym c.in-Some.is) ∙ c.get_mut.follows in
+    let here = found-at c.self.inside.sources c.args.key c.in-Some.source.now c.args.dir at in
+    let side = direction-at (the_view c.self.inside).core c.args.key c.args.dir c.in-Some.source.now here ∙ sym c.side_mut.ensures.value in
+    let none = ap (λ (d : Direction). at_key d.futures c.args.place) (sym side) ∙ (rw (← c.self.view_is) at absent) in
+    absurd (let test = sym c.cancel.ensures.held ∙ c.if-cancel.true in let nothing = ap is_some none in cc)
+
+pub returns-else-cancel-clause-absent : goal.returns-else-cancel-clause-absent
+returns-else-cancel-clause-absent c absent =
+    let at = ap option_copied_mut (sym c.in-Some.is) ∙ c.get_mut.follows in
+    let unheld = without_at-none c.side_mut.result.now.futures c.args.place (sym c.cancel.ensures.held ∙ c.if-cancel.false) in
+    let same = c.cancel.ensures.direction ∙ ap (λ fs. record c.side_mut.result.now { futures = fs }) unheld ∙ c.side_mut.ensures.value in
+    rw (turned-same c.self.inside.sources c.args.key c.in-Some.source.now c.args.dir at c.cancel.new.self same) c.self.view_is
