@@ -9,9 +9,10 @@ ghost use Rattle.react_core.specs.Outer.{Keeps};
 ghost use Rattle.react_core.specs.Outer as part;
 ghost use Rattle.react_core.specs.Told.{told};
 
+use crate::interest::Asked;
 use crate::outside::{Clock, Fault, OutOfMemory, Poller, Registrar, Report, Wakes};
 use crate::rounds::{count_of, first_refusal, take_reports, wait_for_reports, wake_all};
-use crate::source::{Source, Waiting, find, make_room, put, put_in, take_out};
+use crate::source::{Source, make_place, make_room, put_in, take_out};
 use futures::task::Poll;
 use slab::Slab;
 use std::alloc::Global;
@@ -97,6 +98,8 @@ pub struct Reactor {
     made: u64,
     begun: u64,
     sources: Slab<Source>,
+    // How many places futures hold at all sources.
+    places: usize,
     hands: Vec<u64>,
     in_round: bool,
     reports: Vec<Report>,
@@ -107,7 +110,7 @@ impl Model for Reactor {
     ghost use Rattle.std.specs.Prelude.{length};
     ghost use Rattle.slab.specs.Slab.{entries};
     ghost use Rattle.react_core.specs.Core.{Core, ReactorState};
-    ghost use Rattle.react_core.specs.Sources.{AllLone};
+    ghost use Rattle.react_core.specs.Sources.{AllDated, all_places};
 
     ghost Value = { ReactorState };
 
@@ -122,10 +125,12 @@ impl Model for Reactor {
       events = length r.reports.items;
     } };
 
-    // There is room for the two tasks that each source can hold, and an open round has a number above 0.
+    // There is room for the two tasks that each source can hold and for each future's, no source names a later round
+    // than the last, and an open round has a number above 0.
     ghost invariant = { λ r. record {
-      room : vec_len r.hands + 2 * length (entries r.sources) ≤ vec_capacity r.hands;
-      lone : AllLone (entries r.sources);
+      room : vec_len r.hands + (2 * length (entries r.sources) + r.places) ≤ vec_capacity r.hands;
+      places : r.places ≡ all_places (entries r.sources);
+      dated : AllDated r.ticker (entries r.sources);
       numbered : r.in_round ≡ true → 1 ≤ r.ticker;
     } };
 }
@@ -158,6 +163,7 @@ impl Reactor {
             made: timer,
             begun: 0,
             sources: Slab::new(alloc),
+            places: 0,
             hands: Vec::new(alloc),
             in_round: false,
             reports,
@@ -234,7 +240,7 @@ impl Reactor {
     /// Poller: the registration failed. The reactor stays as it was after every `Err`.
     pub fn insert_io<R: Registrar>(
         &mut self,
-        _alloc: Global,
+        alloc: Global,
         registrar: &mut R,
         wire: u32,
     ) -> Result<usize, ReactError>
@@ -253,10 +259,10 @@ impl Reactor {
         ensures keeps { Keeps part.Poller (R.outer registrar.old) (R.outer registrar.new) }
     {
         // Whatever can be refused comes first, so that there is nothing to take back.
-        make_room(&mut self.sources, &mut self.hands)?;
+        make_room(&mut self.sources, self.places, &mut self.hands)?;
         let key = self.sources.vacant_key();
         registrar.add(wire, key)?;
-        Ok(put_in(&mut self.sources, Source::new(wire)))
+        Ok(put_in(&mut self.sources, Source::new(alloc, wire)))
     }
 
     /// Takes the source under this key out, with all that waits for it, in every case.
@@ -284,6 +290,7 @@ impl Reactor {
         let Some(source) = take_out(&mut self.sources, key) else {
             unreachable!()
         };
+        self.places -= source.places();
         registrar.delete(source.wire, key)?;
         Ok(())
     }
@@ -328,33 +335,108 @@ impl Reactor {
         ensures reports { self.new.events ≡ self.old.events }
         ensures keeps { Keeps part.Poller (R.outer registrar.old) (R.outer registrar.new) }
     {
-        let Some(source) = find(&self.sources, key) else {
+        let Some(source) = self.sources.get_mut(key) else {
             unreachable!()
         };
-        let interest = source.side(dir);
-        let next = Waiting {
-            since: self.ticker,
-            task: Some(task),
+        let arming = source.arming(key, dir);
+        let asked = source
+            .side_mut(dir)
+            .poll(registrar, arming, self.ticker, task)?;
+        let stored = match asked {
+            Asked::Fires => return Ok(Poll::Ready(())),
+            Asked::Stays => return Ok(Poll::Pending),
+            Asked::Begins(stored) => stored,
         };
-        if interest.is_fresh() {
-            put(&mut self.sources, key, source.with_polled(dir, None));
-            return Ok(Poll::Ready(()));
-        }
-        if let Some(stored) = interest.task() {
-            // The direction is armed already, for the task that is stored.
-            if stored != task {
-                put(&mut self.sources, key, source.with_polled(dir, Some(next)));
-                self.begun = self.begun.saturating_add(1);
-                wakes.wake(stored);
-            }
-            return Ok(Poll::Pending);
-        }
-        // The poller is asked before anything is stored, so that its refusal leaves all as it was.
-        let armed = source.with_polled(dir, Some(next));
-        registrar.modify(source.wire, key, armed.read.waits(), armed.write.waits())?;
-        put(&mut self.sources, key, armed);
         self.begun = self.begun.saturating_add(1);
+        if let Some(stored) = stored {
+            wakes.wake(stored);
+        }
         Ok(Poll::Pending)
+    }
+}
+
+impl Reactor {
+    ghost use Rattle.std.specs.Prelude.{IsSome};
+    ghost use Rattle.react_core.specs.Core.{HasSource};
+    ghost use Rattle.react_core.specs.Futures.{after_future_poll, cancelled, direction_at, futures_at, future_fresh};
+    ghost use Rattle.react_core.specs.Futures.{entry_given, future_told, held_place, IsPolledAt, IsFutureRefusal};
+    ghost use Rattle.react_core.specs.Keyed.{at_key};
+    ghost use Rattle.react_core.specs.Readiness.{is_ready};
+    ghost use Rattle.react_core.specs.Step.{Step, FuturePoll, Cancel, Polled, Done};
+
+    /// Asks whether a source is ready in a direction, for the task of a future that is to be woken otherwise. Answers
+    /// the future's place, which it gives at its next poll.
+    ///
+    /// Where no place is given, or no future holds it, as after a removal of the source, this is a first poll: the
+    /// future gets a free place, and is Pending. Else it is Ready exactly where a round that was begun after its first
+    /// poll has reported the direction, and stays so until it is cancelled; while it is Pending the task takes the
+    /// place of the one that is stored, which nobody wakes. Where no task waited for the direction, the poller is asked
+    /// to report all directions that a task waits for.
+    ///
+    /// Poller: the poller refused. The reactor stays as it was after every `Err`.
+    pub fn poll_future<R: Registrar>(
+        &mut self,
+        _alloc: Global,
+        registrar: &mut R,
+        key: usize,
+        dir: Dir,
+        place: Option<usize>,
+        task: u64,
+    ) -> Result<(usize, Poll<()>), ReactError>
+        requires { HasSource self.old.core key }
+        ensures place { IfOk result (λ answer.
+            IsPolledAt (futures_at self.old.core key dir) (held_place (futures_at self.old.core key dir) place)
+            answer.0) }
+        ensures ready { IfOk result (λ answer. is_ready answer.1 ≡ future_fresh self.old.core key dir answer.0) }
+        ensures core { IfOk result (λ answer.
+            self.new ≡ record self.old { core = after_future_poll self.old.core key dir answer.0 task }) }
+        ensures steps { CoreSteps self.old.core self.new.core }
+        ensures step { IfOk result (λ answer.
+            Step self.old.core (FuturePoll key dir answer.0 task) (Polled answer.1) [] self.new.core) }
+        ensures err { OnErr result (self.new ≡ self.old) }
+        ensures memory { IsSome (held_place (futures_at self.old.core key dir) place) →
+            OnReactLack result ((R.outer registrar.old).ample ≡ false) }
+        ensures refused { IsFutureRefusal result (direction_at self.old.core key dir)
+            (entry_given (futures_at self.old.core key dir) place) }
+        ensures told { (R.outer registrar.new).events ≡
+            told (R.outer registrar.old).events (future_told self.old.core key dir result) }
+        ensures cause { ReactCounted result (R.outer registrar.old).poller_faults
+            (R.outer registrar.new).poller_faults }
+        ensures reports { self.new.events ≡ self.old.events }
+        ensures keeps { Keeps part.Poller (R.outer registrar.old) (R.outer registrar.new) }
+    {
+        let sources = self.sources.len();
+        let Some(source) = self.sources.get_mut(key) else {
+            unreachable!()
+        };
+        let arming = source.arming(key, dir);
+        let interest = source.side_mut(dir);
+        if let Some(place) = interest.held(place) {
+            let answer = interest.poll_held(registrar, arming, place, task)?;
+            return Ok((place, answer));
+        }
+        let places = make_place(sources, self.places, &mut self.hands)?;
+        let place = interest.poll_first(registrar, arming, self.ticker, task)?;
+        self.places = places;
+        Ok((place, Poll::Pending))
+    }
+
+    /// Takes the future out that holds this place for a direction of the source under this key, where one does. It
+    /// wakes nobody, and the poller isn't asked.
+    pub fn cancel_future(&mut self, key: usize, dir: Dir, place: usize)
+        ensures gone { at_key (futures_at self.new.core key dir) place ≡ None }
+        ensures absent { at_key (futures_at self.old.core key dir) place ≡ None → self.new ≡ self.old }
+        ensures core { self.new ≡ record self.old { core = cancelled self.old.core key dir place } }
+        ensures steps { CoreSteps self.old.core self.new.core }
+        ensures step { HasSource self.old.core key →
+            Step self.old.core (Cancel key dir place) Done [] self.new.core }
+    {
+        let Some(source) = self.sources.get_mut(key) else {
+            return;
+        };
+        if source.side_mut(dir).cancel(place) {
+            self.places -= 1;
+        }
     }
 }
 

@@ -7,7 +7,7 @@ ghost use Rattle.react_core.specs.Reports.{after_report, after_reports, taken_by
 ghost use Rattle.react_core.specs.Reports.{armings_by_all, Try, Tried, tries_of, tries_told, AnswersArming, worse};
 ghost use Rattle.react_core.specs.Reports.{try_answer};
 ghost use Rattle.react_core.specs.Round.{Pause, Paused, not_zero, answer_of, then_answer};
-ghost use Rattle.react_core.specs.Sources.{AllLone};
+ghost use Rattle.react_core.specs.Sources.{AllDated, all_places};
 ghost use Rattle.react_core.specs.Step.{WokeAll};
 ghost use Rattle.react_core.specs.Outer.{Keeps};
 ghost use Rattle.react_core.specs.Outer as part;
@@ -15,7 +15,7 @@ ghost use Rattle.react_core.specs.Told.{told, Counted, OnLack};
 
 use crate::outside::{Clock, Fault, Registrar, Report, Waited, Waiter, Wakes};
 use crate::reactor::ReactError;
-use crate::source::{Source, find, put};
+use crate::source::Source;
 use slab::Slab;
 
 /// How many reports a wait gave.
@@ -94,8 +94,9 @@ pub(crate) fn take_reports<R: Registrar>(
     reports: &[Report],
 ) -> Result<(), ReactError>
     requires begun { 1 ≤ ticker }
-    requires lone { AllLone (entries sources.old) }
-    requires room { vec_len hands.old + 2 * length (entries sources.old) ≤ vec_capacity hands.old }
+    requires dated { AllDated ticker (entries sources.old) }
+    requires room { vec_len hands.old + (2 * length (entries sources.old) + all_places (entries sources.old))
+        ≤ vec_capacity hands.old }
     ensures sources { entries sources.new ≡ after_reports ticker (entries sources.old) reports.now }
     ensures len { length (entries sources.new) ≡ length (entries sources.old) }
     ensures hands { hands.new.items ≡ hands.old.items ++ taken_by_all ticker (entries sources.old) reports.now }
@@ -138,6 +139,7 @@ fn take_report<R: Registrar>(
     report: Report,
 ) -> Result<(), Fault>
     requires begun { 1 ≤ ticker }
+    requires dated { AllDated ticker (entries sources.old) }
     requires room { vec_len hands.old + length (taken_by (entries sources.old) report) ≤ vec_capacity hands.old }
     ensures sources { entries sources.new ≡ after_report ticker (entries sources.old) report }
     ensures hands { hands.new.items ≡ hands.old.items ++ taken_by (entries sources.old) report }
@@ -150,21 +152,9 @@ fn take_report<R: Registrar>(
     ensures cause { Counted result (R.outer registrar.old).poller_faults (R.outer registrar.new).poller_faults }
     ensures keeps { Keeps part.Poller (R.outer registrar.old) (R.outer registrar.new) }
 {
-    let Some(mut source) = find(sources, report.key) else {
+    let Some(source) = sources.get_mut(report.key) else {
         return Ok(());
     };
-    if report.write {
-        source.write.mark(ticker, hands);
-    }
-    if report.read {
-        source.read.mark(ticker, hands);
-    }
-    put(sources, report.key, source);
-    let read = source.read.waits();
-    let write = source.write.waits();
-    if !read && !write {
-        return Ok(());
-    }
-    // An arming names all directions of its key in place of those that it named before.
-    registrar.modify(source.wire, report.key, read, write)
+    source.mark(ticker, report, hands);
+    source.arm(registrar, report.key)
 }

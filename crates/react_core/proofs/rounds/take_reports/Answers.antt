@@ -4,6 +4,7 @@ use Rattle.slab.specs.Slab.{entries}
 use Rattle.react_core.specs.declared.outside.Report.{Report}
 use Rattle.react_core.specs.Outer.{Poller, keeps-then}
 use Rattle.react_core.specs.Reports.{armings_by, armings_by_all}
+use Rattle.react_core.proofs.Dated.{dated-report}
 use Rattle.react_core.proofs.Taking.{waiting, waiting-bound, waiting-report, length-reports, length-armings_by, sources_step, hands_step, armings_step}
 use Rattle.react_core.proofs.Tries.{TriedSoFar-none, TriedSoFar-more, TriedSoFar-all, ReactCounted-worse, OnReactLack-worse, OnLack-same}
 use Rattle.react_core.proofs.rounds.take_reports.Goals as goal
@@ -12,7 +13,8 @@ pub loop-report-init : goal.loop-report-init
 loop-report-init g c = record {
   sources = refl;
   hands = refl;
-  room = omega (arith, c.requires.room, waiting-bound (entries c.args.sources.now) c.requires.lone);
+  room = omega (arith, c.requires.room, waiting-bound (entries c.args.sources.now));
+  dated = c.requires.dated;
   capacity = refl;
   armed = TriedSoFar-none _ _ _;
   cause = refl;
@@ -23,7 +25,7 @@ loop-report-init g c = record {
 pub take_report-armed-requires : goal.take_report-armed-requires
 take_report-armed-requires g c =
     let taken = waiting-report c.args.ticker (entries c.loop-report.sources) (get_or c.args.reports.now c.loop-report.report-index (record { key = 0; read = false; write = false })) in
-    record { begun = c.requires.begun; room = omega (arith, taken, c.loop-report.invariant.room) }
+    record { begun = c.requires.begun; dated = c.loop-report.invariant.dated; room = omega (arith, taken, c.loop-report.invariant.room) }
 
 pub loop-report-preserved : goal.loop-report-preserved
 loop-report-preserved g c =
@@ -42,6 +44,7 @@ loop-report-preserved g c =
       sources = sources_step t s s' rs i d lt now.sources ∙ before.sources;
       hands = hands_step t s s' rs i d lt now.sources c.loop-report.hands.items c.take_report-armed.new.hands.items now.hands ∙ before.hands;
       room = omega (arith, taken, left, before.room, now.len, now.capacity);
+      dated = rw now.sources (dated-report t s (get_or rs i d) before.dated);
       capacity = now.capacity ∙ before.capacity;
       armed = TriedSoFar-more _ _ _ (armings_by t s (get_or rs i d)) c.loop-report.answer _ _ _ _
           c.take_report-armed.result (length-armings_by t s (get_or rs i d)) before.armed (armings_step t s s' rs i d lt now.sources) now.answers
