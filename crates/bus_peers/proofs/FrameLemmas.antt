@@ -1,12 +1,13 @@
 -- What visits and rounds keep of the outside, and which counts they raise.
-use Rattle.std.proofs.Common.{◌≡◌, ◌+◌, ℕ, List, [], ◌∷◌, ◌++◌, length, Option, Some, None, Result, Ok, Err, slice_set, zero, suc, refl, sym, ap, ◌∙◌, subst, arith}
+use Rattle.std.proofs.Common.{◌≡◌, ◌+◌, ℕ, Bool, true, false, if◌then◌else◌, List, [], ◌∷◌, ◌++◌, length, Option, Some, None, Result, Ok, Err, slice_set, zero, suc, refl, sym, ap, ◌∙◌, subst, arith}
 use Rattle.std.specs.Prelude.{IfOk, OnErr}
 use Rattle.react_core.specs.Core.{Core}
 use Rattle.react_core.specs.Readiness.{Outcome, Fires, Stays, Begins, after_source_poll, poll_outcome}
-use Rattle.react_core.specs.Sources.{source_of}
+use Rattle.react_core.specs.Futures.{is_fired, with_future, with_direction, after_source_future, after_source_cancel}
+use Rattle.react_core.specs.Sources.{side, source_of}
 use Rattle.react_core.specs.Places.{Source}
 use Rattle.react_core.specs.declared.reactor.Dir.{Dir}
-use Rattle.react_core.specs.Step.{Kind, Answer, Step, PolledPoll, Insert, Remove, Begin, Return, Finish, Polled, Done}
+use Rattle.react_core.specs.Step.{Kind, Answer, Step, PolledPoll, FuturePoll, Cancel, Insert, Remove, Begin, Return, Finish, Polled, Done}
 use Rattle.react_core.specs.Steps.{Steps, CoreSteps}
 use Rattle.react_core.specs.Outer.{Outer, Keeps, visit-in-all, round-in-all}
 use Rattle.react_core.specs.Outer as part
@@ -105,6 +106,21 @@ poll-made core key (Some s) dir task Fires = refl
 poll-made core key (Some s) dir task Stays = refl
 poll-made core key (Some s) dir task (Begins tasks arms) = refl
 
+future-made : (core : Core) (key : ℕ) (o : Option Source) (dir : Dir) (place task : ℕ) →
+    (after_source_future core key o dir place task).made ≡ core.made
+future-made core key None dir place task = refl
+future-made core key (Some s) dir place task = go (is_fired (side dir s) place) where
+  go : (fired : Bool) →
+      (if fired then core else with_direction core key dir s (with_future core.ticker task (side dir s) place)).made
+      ≡ core.made
+  go true = refl
+  go false = refl
+
+cancel-made : (core : Core) (key : ℕ) (o : Option Source) (dir : Dir) (place : ℕ) →
+    (after_source_cancel core key o dir place).made ≡ core.made
+cancel-made core key None dir place = refl
+cancel-made core key (Some s) dir place = refl
+
 step-made : (old : Core) (kind : Kind) (answer : Answer) (woken : List ℕ) (new : Core) → Step old kind answer woken new → new.made ≡ old.made
 step-made old (PolledPoll key dir task) (Polled answer) woken new s = ap (λ c. c.made) s.core ∙ poll-made old key (source_of old.sources key) dir task (poll_outcome old key dir task)
 step-made old (Insert wire key) Done woken new s = ap (λ c. c.made) s.core
@@ -112,7 +128,13 @@ step-made old (Remove key) Done woken new s = ap (λ c. c.made) s.core
 step-made old Begin Done woken new s = ap (λ c. c.made) s.core
 step-made old (Return reports) Done woken new s = ap (λ c. c.made) s.core
 step-made old (Finish reports) Done woken new s = ap (λ c. c.made) s.core
+step-made old (FuturePoll key dir place task) (Polled answer) woken new s =
+    ap (λ c. c.made) s.core ∙ future-made old key (source_of old.sources key) dir place task
+step-made old (Cancel key dir place) Done woken new s =
+    ap (λ c. c.made) s.core ∙ cancel-made old key (source_of old.sources key) dir place
 step-made old (PolledPoll key dir task) Done woken new s = absurd s
+step-made old (FuturePoll key dir place task) Done woken new s = absurd s
+step-made old (Cancel key dir place) (Polled answer) woken new s = absurd s
 step-made old (Insert wire key) (Polled answer) woken new s = absurd s
 step-made old (Remove key) (Polled answer) woken new s = absurd s
 step-made old Begin (Polled answer) woken new s = absurd s
