@@ -1,6 +1,11 @@
 //! What the printed text of a run says: one list of endings and one record of events, and no other.
+//!
+//! [`printed_names_one_run`] is the law, for endings and events whose numbers lie within their types, whose bytes are
+//! bytes and whose GUIDs are GUIDs. Those that a program holds are such: [`values_fit`] says so of them.
 #![tactic(auto)]
 
+mod fits;
 mod laws;
 
+pub use fits::values_fit;
 pub use laws::printed_names_one_run;
