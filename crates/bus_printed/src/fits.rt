@@ -1,7 +1,7 @@
 //! That what a program holds fits its types, as a fact that contracts can cite.
 //!
-//! The numbers of a contract are any. A proof knows the range of a number that the code reads, so the numbers are read
-//! here, and nothing is done with them.
+//! A number of a contract may be any number. Of a number that the code reads a proof knows the range, so the numbers
+//! are read here, and nothing is done with them.
 
 ghost use Rattle.std.specs.Prelude.{◌<◌, ◌^◌};
 ghost use Rattle.std.specs.List.{All};
@@ -24,6 +24,7 @@ trait Fitting {
         ensures { fits self.now };
 }
 
+/// Reads each of the values.
 fn read_all<T: Fitting>(values: &[T])
     ensures { All T.fits values.now }
 {
