@@ -19,6 +19,8 @@ use Rattle.react_core.specs.declared.outside.Rooms.TheVariants as rooms
 use Rattle.bus_record.specs.Failing.{PollerFailed}
 use Rattle.bus_record.specs.Headline.{Headline}
 use Rattle.bus_peers.specs.Headline.{Opened, Exhausts}
+use Rattle.bus_script.specs.Printed.{printed}
+use Rattle.bus_printed.specs.Names.{Names}
 use Rattle.bus_open.specs.Run.{most_reports, FollowsAnswers, ComesTo, PollerFails, RunsOut, status_of}
 
 none_counted : (faults : ℕ) → counted faults ≡ 0 → faults ≡ 0
@@ -36,9 +38,11 @@ follows-answers answers left before after room told shown plays are unwaited mos
 -- at Ok
 pub comes : (answers : Queues) (sessions : List Session) (rounds : ℕ) (old new : Core) (endeds : List Ended) (start told shown : List Event) →
     start ≡ [] → shown ≡ told → FollowsAnswers answers shown → counted (faults_of_poller told) ≡ counted (faults_of_poller start) →
-    ((r : List Event) × (Some told ≡ with_told (Some start) r) × Opened sessions rounds old new endeds r × Unit {0}) → ComesTo answers sessions rounds endeds shown
-comes answers sessions rounds old new endeds start told shown none are follows calm opens = record {
+    ((r : List Event) × (Some told ≡ with_told (Some start) r) × Opened sessions rounds old new endeds r × Unit {0}) →
+    Names (printed endeds shown) endeds shown → ComesTo answers sessions rounds endeds shown
+comes answers sessions rounds old new endeds start told shown none are follows calm opens named = record {
   follows = follows;
+  named = named;
   faultless = ap faults_of_poller are ∙ none_counted (faults_of_poller told) (calm ∙ ap (λ t. counted (faults_of_poller t)) none);
   pieces = opens.2.pieces;
   headline = subst (λ (r : List Event). Headline sessions rounds opens.2.pieces endeds r) (sym (are ∙ (same_Some told (start ++ opens.0) opens.1 ∙ ap (λ t. t ++ opens.0) none))) opens.2.headline;

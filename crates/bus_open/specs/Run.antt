@@ -20,6 +20,7 @@ use Rattle.bus_record.specs.Failing.{PollerFailed}
 use Rattle.bus_peers.specs.Headline.{Exhausts}
 use Rattle.react_core.specs.Core.{Core}
 use Rattle.bus_script.specs.Printed.{printed}
+use Rattle.bus_printed.specs.Names.{Names}
 use Rattle.bus_check.specs.declared.kind.Kind.{Kind}
 use Rattle.bus_check.specs.Says.{Says}
 use Rattle.bus_open.specs.Commands.{asked, checked_text}
@@ -48,6 +49,8 @@ pub record ComesTo (answers : Queues) (sessions : List Session) (rounds : ℕ) (
   -- how the record is cut into visits and rounds
   pub pieces : Pieces
   pub headline : Headline sessions rounds pieces endeds events
+  -- no others are printed so
+  pub named : Names (printed endeds events) endeds events
 
 -- Endings and a record follow from a script.
 pub record FollowFrom (s : Script) (endeds : List Ended) (events : List Event) : Type 0 where
@@ -78,10 +81,10 @@ pub record Plays (old new : Option (List ℕ)) (endeds : List Ended) (events : L
 
 -- The results of a run, as a text, and whether all is well.
 pub data Results (words : List (List ℕ)) (old new : Option (List ℕ)) : Bool → List ℕ → Type 0 where
-  -- of a script that is played: every session is open
+  -- of a script that is played: every session is open; the text names its endings and its record
   played : (endeds : List Ended) (events : List Event) (well : Bool) (text : List ℕ) → asked words ≡ Ok Play → Plays
       old new endeds events →
-      well ≡ all_open endeds → text ≡ printed endeds events → Results words old new well text
+      well ≡ all_open endeds → text ≡ printed endeds events → Names text endeds events → Results words old new well text
   -- of a text that is checked: it is one of its kind; nothing is read
   checked : (kind : Kind) (well : Bool) (text : List ℕ) → asked words ≡ Ok (Check kind) → Keeps old new →
       Says kind (checked_text words) well text → Results words old new well text

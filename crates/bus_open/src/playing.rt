@@ -10,6 +10,7 @@ ghost use Rattle.bus_script.specs.Script.{Script, Refused, script};
 ghost use Rattle.bus_script.specs.Printed.{printed, refusal};
 ghost use Rattle.bus_session.specs.declared.ended.Ended.{Ended};
 ghost use Rattle.bus_session.specs.Sessions.{is_built};
+ghost use Rattle.bus_printed.specs.Names.{Names};
 ghost use Rattle.bus_open.specs.Streams.{GainsFront, GainsOrFails, LosesFront};
 ghost use Rattle.bus_open.specs.Run.{ComesTo, Plays, Reads, PollerFails, ScriptFails, RefusesScript, RunsOut, ScriptRunsOut};
 ghost use Rattle.bus_open.specs.Run.{all_open, is_open, status_of};
@@ -19,6 +20,7 @@ use crate::status;
 use crate::stream::{Sink, Source};
 use crate::whole::{ReadError, read_all, write_all};
 use bus_peers::{Ended, Ending, OpenError, Played, Scene, ScriptError, ScriptForm, open_all};
+use bus_printed::{printed_names_one_run, values_fit};
 use bus_script::printed;
 use react_core::outside::Event;
 use react_core::reactor::Reactor;
@@ -55,7 +57,10 @@ fn report<K: Sink>(alloc: Global, sink: &mut K, endeds: &[Ended], events: &[Even
         Rose (K.write_faults sink.old) (K.write_faults sink.new)
         × GainsFront (K.held sink.old) (K.held sink.new) (printed endeds.now events.now) }
     ensures nothing { result ≡ 5 → Keeps (K.held sink.old) (K.held sink.new) }
+    ensures named { Names (printed endeds.now events.now) endeds.now events.now }
 {
+    values_fit(endeds, events);
+    printed_names_one_run();
     let Ok(text) = printed(alloc, endeds, events) else {
         return status::OUT_OF_MEMORY;
     };

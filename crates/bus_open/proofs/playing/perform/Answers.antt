@@ -14,7 +14,7 @@ returns-in-Ok-opened-clause-opened g c = λ zero.
           (follows-answers c.args.played.scene.script _ c.args.played.scene.rooms _ _ _ c.events-events.result.now c.open_all-opened.ensures.keeps.origin
           c.events-events.ensures.told c.requires.unwaited (ap (λ (r : ReactorState). r.events) c.in-Ok.ensures)
           c.open_all-opened.ensures.keeps.rooms c.events-events.ensures.follows) c.in-Ok-opened.ensures.cause
-          c.in-Ok-opened.ensures.opened,
+          c.in-Ok-opened.ensures.opened (rw c.as_slice.ensures.value at c.report.ensures.named),
       all.0,
       all.1,
     )
@@ -29,7 +29,7 @@ returns-in-Ok-opened-clause-other g c = λ one.
           (follows-answers c.args.played.scene.script _ c.args.played.scene.rooms _ _ _ c.events-events.result.now c.open_all-opened.ensures.keeps.origin
           c.events-events.ensures.told c.requires.unwaited (ap (λ (r : ReactorState). r.events) c.in-Ok.ensures)
           c.open_all-opened.ensures.keeps.rooms c.events-events.ensures.follows) c.in-Ok-opened.ensures.cause
-          c.in-Ok-opened.ensures.opened,
+          c.in-Ok-opened.ensures.opened (rw c.as_slice.ensures.value at c.report.ensures.named),
       other.0,
       other.1,
     )
@@ -44,7 +44,7 @@ returns-in-Ok-opened-clause-failed g c = λ four.
           (follows-answers c.args.played.scene.script _ c.args.played.scene.rooms _ _ _ c.events-events.result.now c.open_all-opened.ensures.keeps.origin
           c.events-events.ensures.told c.requires.unwaited (ap (λ (r : ReactorState). r.events) c.in-Ok.ensures)
           c.open_all-opened.ensures.keeps.rooms c.events-events.ensures.follows) c.in-Ok-opened.ensures.cause
-          c.in-Ok-opened.ensures.opened,
+          c.in-Ok-opened.ensures.opened (rw c.as_slice.ensures.value at c.report.ensures.named),
       failed.0,
       failed.1,
     )

@@ -12,7 +12,7 @@ returns-in-Ok-Play-clause-well g c = λ zero.
     let is_asked : asked (map string_bytes c.args.words.now) ≡ Ok Play = sym c.asked.ensures.answer ∙ (c.in-Ok-Play.is ∙ ap Ok c.in-Ok-Play.field-0-is) in
     let came = c.play.ensures.opened zero in (
       printed came.0 came.1,
-      played came.0 came.1 true (printed came.0 came.1) is_asked came.2 (sym came.3) refl,
+      played came.0 came.1 true (printed came.0 came.1) is_asked came.2 (sym came.3) refl came.2.follow.comes.named,
       came.4,
     )
 
@@ -21,7 +21,7 @@ returns-in-Ok-Play-clause-other g c = λ one.
     let is_asked : asked (map string_bytes c.args.words.now) ≡ Ok Play = sym c.asked.ensures.answer ∙ (c.in-Ok-Play.is ∙ ap Ok c.in-Ok-Play.field-0-is) in
     let came = c.play.ensures.other one in (
       printed came.0 came.1,
-      played came.0 came.1 false (printed came.0 came.1) is_asked came.2 (sym came.3) refl,
+      played came.0 came.1 false (printed came.0 came.1) is_asked came.2 (sym came.3) refl came.2.follow.comes.named,
       came.4,
     )
 
@@ -31,7 +31,7 @@ returns-in-Ok-Play-clause-write_fault g c = λ four.
     let came = c.play.ensures.write_fault four in (
       all_open came.0,
       printed came.0 came.1,
-      played came.0 came.1 (all_open came.0) (printed came.0 came.1) is_asked came.2 refl refl,
+      played came.0 came.1 (all_open came.0) (printed came.0 came.1) is_asked came.2 refl refl came.2.follow.comes.named,
       came.3,
       came.4,
     )
