@@ -20,7 +20,7 @@ use crate::status;
 use crate::stream::{Sink, Source};
 use crate::whole::{ReadError, read_all, write_all};
 use bus_peers::{Ended, Ending, OpenError, Played, Scene, ScriptError, ScriptForm, open_all};
-use bus_printed::{printed_names_one_run, values_fit};
+use bus_printed::names_alone;
 use bus_script::printed;
 use react_core::outside::Event;
 use react_core::reactor::Reactor;
@@ -59,8 +59,7 @@ fn report<K: Sink>(alloc: Global, sink: &mut K, endeds: &[Ended], events: &[Even
     ensures nothing { result ≡ 5 → Keeps (K.held sink.old) (K.held sink.new) }
     ensures named { Names (printed endeds.now events.now) endeds.now events.now }
 {
-    values_fit(endeds, events);
-    printed_names_one_run();
+    names_alone(endeds, events);
     let Ok(text) = printed(alloc, endeds, events) else {
         return status::OUT_OF_MEMORY;
     };

@@ -12,6 +12,7 @@ use Rattle.bus_session.specs.declared.ended.Ended.{Ended}
 use Rattle.bus_script.specs.Words.{words_of}
 use Rattle.bus_script.specs.Script.{lines_in}
 use Rattle.bus_script.specs.Printed.{words_text, line_text, event_words, ended_words, event_lines, printed}
+use Rattle.bus_printed.specs.Names.{Names}
 use Rattle.bus_printed.specs.Fits.{FitsEvent, FitsEnded, Fits}
 use Rattle.bus_printed.proofs.Cuts.{lacks, weaker, all_both, parts_front, parts_joined}
 use Rattle.bus_printed.proofs.Rereads.{graphic}
@@ -172,3 +173,8 @@ one_run endeds endeds' events events' h h' same = (
   sym (endings_back endeds events h) ∙ ap endings_in same ∙ endings_back endeds' events' h',
   sym (record_back endeds events h) ∙ ap record_in same ∙ record_back endeds' events' h',
 )
+
+-- what fits is named by its text alone
+pub named : (endeds : List Ended) (events : List Event) → Fits endeds events → Names (printed endeds events) endeds events
+named endeds events fit =
+    record { fits = fit; alone = λ endeds' events' fit' same. one_run endeds' endeds events' events fit' fit same }

@@ -8,6 +8,8 @@ ghost use Rattle.std.specs.List.{All};
 ghost use Rattle.hex.specs.Hex.{IsBytes};
 ghost use Rattle.bus_printed.specs.Fits.{FitsPeer, FitsQuestion, FitsDial, FitsRecv, FitsSend, FitsReport, FitsWait};
 ghost use Rattle.bus_printed.specs.Fits.{FitsEvent, FitsEnding, FitsEnded, FitsWhereThere, Fits};
+ghost use Rattle.bus_printed.specs.Names.{Names};
+ghost use Rattle.bus_script.specs.Printed.{printed};
 
 use bus_session::{Ended, Ending};
 use react_core::outside::{
@@ -255,9 +257,17 @@ impl Fitting for Ended {
 }
 
 /// The endings and the events of a program fit their types.
-pub fn values_fit(endeds: &[Ended], events: &[Event])
+fn values_fit(endeds: &[Ended], events: &[Event])
     ensures { Fits endeds.now events.now }
 {
     read_all(endeds);
     read_all(events);
+}
+
+/// No other endings and events that a program can hold are printed as these. It gives nothing back: its clause is what
+/// it is for.
+pub fn names_alone(endeds: &[Ended], events: &[Event])
+    ensures { Names (printed endeds.now events.now) endeds.now events.now }
+{
+    values_fit(endeds, events);
 }

@@ -21,7 +21,7 @@ invariant_of-self-then-is_none c = record {
   polled = c.self.invariant.polled;
   futures = tied-gone c.self.inside.tick c.self.inside.futures c.try_remove.new.self c.args.place c.self.invariant.futures c.try_remove.ensures.updates;
   taken = (counts-gone_taken c.self.inside.futures c.try_remove.new.self c.args.place c.self.inside.taken c.in-Some.waiting c.self.invariant.taken (sym c.try_remove.ensures.value ∙ c.in-Some.is)
-  c.try_remove.ensures.updates (c.is_none.ensures ∙ ap not c.if-is_none.true)).1;
+      c.try_remove.ensures.updates (c.is_none.ensures ∙ ap not c.if-is_none.true)).1;
 }
 
 pub invariant_of-self-else-is_none : goal.invariant_of-self-else-is_none
@@ -29,7 +29,7 @@ invariant_of-self-else-is_none c = record {
   polled = c.self.invariant.polled;
   futures = tied-gone c.self.inside.tick c.self.inside.futures c.try_remove.new.self c.args.place c.self.invariant.futures c.try_remove.ensures.updates;
   taken = counts-gone_waiting c.self.inside.futures c.try_remove.new.self c.args.place c.self.inside.taken c.in-Some.waiting c.self.invariant.taken (sym c.try_remove.ensures.value ∙ c.in-Some.is)
-  c.try_remove.ensures.updates (c.is_none.ensures ∙ ap not c.if-is_none.false);
+      c.try_remove.ensures.updates (c.is_none.ensures ∙ ap not c.if-is_none.false);
 }
 
 pub returns-then-is_none-clause-held : goal.returns-then-is_none-clause-held

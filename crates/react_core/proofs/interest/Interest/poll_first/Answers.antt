@@ -28,5 +28,11 @@ returns-clause-free g c =
 pub returns-clause-direction : goal.returns-clause-direction
 returns-clause-direction g c =
     let free = at_key-futures_in c.reserve.new.self c.insert_reserved.result ∙ ap place_of c.insert_reserved.ensures.was_vacant in
-    rw (← c.self.view_is, ← ap entries c.reserve.ensures.rest_kept, free, entries-come c.reserve.new.self c.insert_reserved.new.self c.insert_reserved.result _ c.insert_reserved.ensures.was_vacant
-    c.insert_reserved.ensures.updates, c.begun-waiting.ensures) refl
+    rw (
+      ← c.self.view_is,
+      ← ap entries c.reserve.ensures.rest_kept,
+      free,
+      entries-come c.reserve.new.self c.insert_reserved.new.self c.insert_reserved.result _ c.insert_reserved.ensures.was_vacant
+          c.insert_reserved.ensures.updates,
+      c.begun-waiting.ensures,
+    ) refl

@@ -46,7 +46,7 @@ invariant_of-self-then-cancel c =
       places = omega (arith, held, before, after, places-turned c.self.inside.sources c.args.key c.in-Some.source.now c.args.dir at c.cancel.new.self, c.self.invariant.places);
       dated = dated-turned c.self.inside.sources c.args.key c.in-Some.source.now c.args.dir at c.self.inside.ticker c.cancel.new.self c.self.invariant.dated
           (rw is (dated-without_future c.self.inside.ticker (side c.args.dir c.in-Some.source.now) c.args.place
-              (dated-at c.self.inside.sources c.args.key c.in-Some.source.now c.args.dir at c.self.inside.ticker c.self.invariant.dated)));
+          (dated-at c.self.inside.sources c.args.key c.in-Some.source.now c.args.dir at c.self.inside.ticker c.self.invariant.dated)));
       numbered = c.self.invariant.numbered;
     }
 
@@ -67,8 +67,12 @@ pub returns-then-cancel-clause-core : goal.returns-then-cancel-clause-core
 returns-then-cancel-clause-core c =
     let at = ap option_copied_mut (sym c.in-Some.is) ∙ c.get_mut.follows in
     let is = c.cancel.ensures.direction ∙ ap (λ d. without_future d c.args.place) c.side_mut.ensures.value in
-    rw (← c.self.view_is, found-at c.self.inside.sources c.args.key c.in-Some.source.now c.args.dir at,
-    turned-is c.self.inside.sources c.args.key c.in-Some.source.now c.args.dir at, is) refl
+    rw (
+      ← c.self.view_is,
+      found-at c.self.inside.sources c.args.key c.in-Some.source.now c.args.dir at,
+      turned-is c.self.inside.sources c.args.key c.in-Some.source.now c.args.dir at,
+      is,
+    ) refl
 
 pub returns-then-cancel-clause-step : goal.returns-then-cancel-clause-step
 returns-then-cancel-clause-step c known = record { known = known; wakes = refl; core = ap (λ (s : ReactorState). s.core) (returns-then-cancel-clause-core c) }
@@ -83,8 +87,12 @@ pub returns-else-cancel-clause-core : goal.returns-else-cancel-clause-core
 returns-else-cancel-clause-core c =
     let at = ap option_copied_mut (sym c.in-Some.is) ∙ c.get_mut.follows in
     let is = c.cancel.ensures.direction ∙ ap (λ d. without_future d c.args.place) c.side_mut.ensures.value in
-    rw (← c.self.view_is, found-at c.self.inside.sources c.args.key c.in-Some.source.now c.args.dir at,
-    turned-is c.self.inside.sources c.args.key c.in-Some.source.now c.args.dir at, is) refl
+    rw (
+      ← c.self.view_is,
+      found-at c.self.inside.sources c.args.key c.in-Some.source.now c.args.dir at,
+      turned-is c.self.inside.sources c.args.key c.in-Some.source.now c.args.dir at,
+      is,
+    ) refl
 
 pub returns-else-cancel-clause-step : goal.returns-else-cancel-clause-step
 returns-else-cancel-clause-step c known = record { known = known; wakes = refl; core = ap (λ (s : ReactorState). s.core) (returns-else-cancel-clause-core c) }

@@ -62,7 +62,7 @@ invariant_of-self-in-Some-held g c =
       places = omega (arith, before, after, kept, places-turned c.self.inside.sources c.args.key c.in-Some.source.now c.args.dir at c.poll_held.new.self, c.self.invariant.places);
       dated = dated-turned c.self.inside.sources c.args.key c.in-Some.source.now c.args.dir at c.self.inside.ticker c.poll_held.new.self c.self.invariant.dated
           (rw (is, c.side_mut-interest.ensures.value) (dated-after_future c.self.inside.ticker c.args.task (side c.args.dir c.in-Some.source.now) c.in-Some-held.place
-              (dated-at c.self.inside.sources c.args.key c.in-Some.source.now c.args.dir at c.self.inside.ticker c.self.invariant.dated)));
+          (dated-at c.self.inside.sources c.args.key c.in-Some.source.now c.args.dir at c.self.inside.ticker c.self.invariant.dated)));
       numbered = c.self.invariant.numbered;
     }
 
@@ -172,7 +172,7 @@ invariant_of-self-2 g c =
       places = omega (arith, before, after, more, c.in_ok-places.ensures.places, places-turned c.self.inside.sources c.args.key c.in-Some.source.now c.args.dir at c.poll_first.new.self, c.self.invariant.places);
       dated = dated-turned c.self.inside.sources c.args.key c.in-Some.source.now c.args.dir at c.self.inside.ticker c.poll_first.new.self c.self.invariant.dated
           (rw (is, c.side_mut-interest.ensures.value) (dated-with_future c.self.inside.ticker c.args.task (side c.args.dir c.in-Some.source.now) c.in_ok-place.place
-              (dated-at c.self.inside.sources c.args.key c.in-Some.source.now c.args.dir at c.self.inside.ticker c.self.invariant.dated)));
+          (dated-at c.self.inside.sources c.args.key c.in-Some.source.now c.args.dir at c.self.inside.ticker c.self.invariant.dated)));
       numbered = c.self.invariant.numbered;
     }
 

@@ -60,7 +60,7 @@ invariant_of-self-in-Fires g c =
       places = omega (arith, before, after, kept, places-turned c.self.inside.sources c.args.key c.in-Some.source.now c.args.dir at c.poll.new.self, c.self.invariant.places);
       dated = dated-turned c.self.inside.sources c.args.key c.in-Some.source.now c.args.dir at c.self.inside.ticker c.poll.new.self c.self.invariant.dated
           (rw (is, c.side_mut.ensures.value) (dated-after_direction c.self.inside.ticker c.args.task (side c.args.dir c.in-Some.source.now)
-              (dated-at c.self.inside.sources c.args.key c.in-Some.source.now c.args.dir at c.self.inside.ticker c.self.invariant.dated)));
+          (dated-at c.self.inside.sources c.args.key c.in-Some.source.now c.args.dir at c.self.inside.ticker c.self.invariant.dated)));
       numbered = c.self.invariant.numbered;
     }
 
@@ -76,7 +76,7 @@ invariant_of-self-2 g c =
       places = omega (arith, before, after, kept, places-turned c.self.inside.sources c.args.key c.in-Some.source.now c.args.dir at c.poll.new.self, c.self.invariant.places);
       dated = dated-turned c.self.inside.sources c.args.key c.in-Some.source.now c.args.dir at c.self.inside.ticker c.poll.new.self c.self.invariant.dated
           (rw (is, c.side_mut.ensures.value) (dated-after_direction c.self.inside.ticker c.args.task (side c.args.dir c.in-Some.source.now)
-              (dated-at c.self.inside.sources c.args.key c.in-Some.source.now c.args.dir at c.self.inside.ticker c.self.invariant.dated)));
+          (dated-at c.self.inside.sources c.args.key c.in-Some.source.now c.args.dir at c.self.inside.ticker c.self.invariant.dated)));
       numbered = c.self.invariant.numbered;
     }
 
