@@ -1,6 +1,5 @@
-use Rattle.std.proofs.Common.{◌≡◌, ◌∙◌, sym, ap, is_some, true, false, Some, None, refl}
+use Rattle.std.proofs.Common.{◌∙◌, sym, ap, refl}
 use Rattle.std.specs.Prelude.{not}
-use Rattle.slab.specs.Slab.{get}
 use Rattle.react_core.specs.Ticks.{place_of}
 use Rattle.react_core.proofs.Holding.{counts-gone_taken, counts-gone_waiting, tied-gone, held-entry, entries-gone, at_key-futures_in}
 use Rattle.react_core.proofs.interest.Interest.cancel.Goals as goal
@@ -21,7 +20,7 @@ invariant_of-self-then-is_none c = record {
   polled = c.self.invariant.polled;
   futures = tied-gone c.self.inside.tick c.self.inside.futures c.try_remove.new.self c.args.place c.self.invariant.futures c.try_remove.ensures.updates;
   taken = (counts-gone_taken c.self.inside.futures c.try_remove.new.self c.args.place c.self.inside.taken c.in-Some.waiting c.self.invariant.taken (sym c.try_remove.ensures.value ∙ c.in-Some.is)
-  c.try_remove.ensures.updates (c.is_none.ensures ∙ ap not c.if-is_none.true)).1;
+      c.try_remove.ensures.updates (c.is_none.ensures ∙ ap not c.if-is_none.true)).1;
 }
 
 pub invariant_of-self-else-is_none : goal.invariant_of-self-else-is_none
@@ -29,7 +28,7 @@ invariant_of-self-else-is_none c = record {
   polled = c.self.invariant.polled;
   futures = tied-gone c.self.inside.tick c.self.inside.futures c.try_remove.new.self c.args.place c.self.invariant.futures c.try_remove.ensures.updates;
   taken = counts-gone_waiting c.self.inside.futures c.try_remove.new.self c.args.place c.self.inside.taken c.in-Some.waiting c.self.invariant.taken (sym c.try_remove.ensures.value ∙ c.in-Some.is)
-  c.try_remove.ensures.updates (c.is_none.ensures ∙ ap not c.if-is_none.false);
+      c.try_remove.ensures.updates (c.is_none.ensures ∙ ap not c.if-is_none.false);
 }
 
 pub returns-then-is_none-clause-held : goal.returns-then-is_none-clause-held

@@ -1,9 +1,8 @@
-use Rattle.std.proofs.Common.{◌∙◌, sym, ap, refl, inl, inr}
+use Rattle.std.proofs.Common.{◌∙◌, ap, refl, inl, inr}
 use Rattle.slab.specs.Slab.{entries}
 use Rattle.react_core.specs.declared.interest.Waiting.{Waiting}
-use Rattle.react_core.specs.Keyed.{at_key}
 use Rattle.react_core.specs.Places.{Direction}
-use Rattle.react_core.specs.Ticks.{futures_of, place_of}
+use Rattle.react_core.specs.Ticks.{place_of}
 use Rattle.react_core.proofs.Holding.{counts-come, counts-roomy, tied-come, tied-roomy, tied-new, entries-come, at_key-futures_in}
 use Rattle.react_core.proofs.interest.Interest.poll_first.Goals as goal
 
@@ -28,5 +27,11 @@ returns-clause-free g c =
 pub returns-clause-direction : goal.returns-clause-direction
 returns-clause-direction g c =
     let free = at_key-futures_in c.reserve.new.self c.insert_reserved.result ∙ ap place_of c.insert_reserved.ensures.was_vacant in
-    rw (← c.self.view_is, ← ap entries c.reserve.ensures.rest_kept, free, entries-come c.reserve.new.self c.insert_reserved.new.self c.insert_reserved.result _ c.insert_reserved.ensures.was_vacant
-    c.insert_reserved.ensures.updates, c.begun-waiting.ensures) refl
+    rw (
+      ← c.self.view_is,
+      ← ap entries c.reserve.ensures.rest_kept,
+      free,
+      entries-come c.reserve.new.self c.insert_reserved.new.self c.insert_reserved.result _ c.insert_reserved.ensures.was_vacant
+          c.insert_reserved.ensures.updates,
+      c.begun-waiting.ensures,
+    ) refl
