@@ -1,5 +1,5 @@
 -- What a poll of readiness does, by its direction.
-use Rattle.std.proofs.Common.{◌≡◌, ◌+◌, ◌-◌, ◌^◌, ℕ, Bool, true, false, List, [], ◌∷◌, Option, Some, None, is_some, length, Result, Ok, Err, refl, sym, ap, ◌∙◌, subst, arith}
+use Rattle.std.proofs.Common.{◌≡◌, ◌+◌, ◌-◌, ◌^◌, ℕ, Bool, true, false, List, [], ◌∷◌, Option, Some, None, Result, Ok, Err, refl, sym, ap, ◌∙◌}
 use Rattle.std.specs.Prelude.{if◌then◌else◌, min, ◌==◌}
 use Rattle.std.specs.Option.{option_to_list}
 use Rattle.futures.specs.declared.task.Poll.{Poll}
@@ -11,7 +11,7 @@ use Rattle.react_core.specs.declared.reactor.ReactError.{ReactError}
 use Rattle.react_core.specs.declared.reactor.ReactError.TheVariants.{Poller, OutOfMemory, Exhausted}
 use Rattle.react_core.specs.Asking.{arming_for, ask_told, first_task, asked_of, after_outcome, after_direction}
 use Rattle.react_core.specs.Core.{Core}
-use Rattle.react_core.specs.Places.{Entry, Direction, Source}
+use Rattle.react_core.specs.Places.{Direction, Source}
 use Rattle.react_core.specs.Readiness.{Outcome, Fires, Stays, Begins, fresh, fresh_at, fresh_of, stored_task, waiting_outcome, direction_outcome, source_outcome}
 use Rattle.react_core.specs.Readiness.{poll_outcome, poll_answer, is_ready, woken_by, arms, after_source_poll, after_poll, poll_told}
 use Rattle.react_core.specs.Reports.{Arming}
@@ -122,12 +122,16 @@ module _ (core : Core) (key : ℕ) (dir : Dir) (task : ℕ) (s : Source) (found 
     same-arms = ap (λ x. arms (direction_outcome task x)) at
 
     pub told-polled : (answer : Poll (Unit {0})) → ask_told {T = Asked} (arms (direction_outcome task d)) a (Ok asked.Stays) ≡ poll_told core key dir task (Ok answer)
-    told-polled answer = ap (λ b. ask_told {T = Asked} b a (Ok asked.Stays)) same-arms ∙ ap (λ x. ask_told {T = Asked} (arms (direction_outcome task (side dir s))) x (Ok asked.Stays)) arming ∙ poll-told (Ok answer)
+    told-polled answer =
+        ap (λ b. ask_told {T = Asked} b a (Ok asked.Stays)) same-arms ∙ ap (λ x. ask_told {T = Asked} (arms (direction_outcome task (side dir s))) x (Ok asked.Stays)) arming
+        ∙ poll-told (Ok answer)
 
     pub told-refused : (e : ReactError) → ask_told {T = Asked} (arms (direction_outcome task d)) a (Err e) ≡ poll_told core key dir task (Err e)
     told-refused e = ap (λ b. ask_told {T = Asked} b a (Err e)) same-arms ∙ ap (λ x. ask_told {T = Asked} (arms (direction_outcome task (side dir s))) x (Err e)) arming ∙ other e ∙ poll-told (Err e)
       where
-        other : (e : ReactError) → ask_told {T = Asked} (arms (direction_outcome task (side dir s))) (arming_for key dir s) (Err e) ≡ ask_told {T = Poll (Unit {0})} (arms (direction_outcome task (side dir s))) (arming_for key dir s) (Err e)
+        other : (e : ReactError) →
+            ask_told {T = Asked} (arms (direction_outcome task (side dir s))) (arming_for key dir s) (Err e) ≡ ask_told {T = Poll (Unit {0})} (arms (direction_outcome task (side dir s)))
+            (arming_for key dir s) (Err e)
         other Poller = refl
         other OutOfMemory = refl
         other (Exhausted counter value) = refl

@@ -1,12 +1,12 @@
 -- Sources that name no round after the last one.
-use Rattle.std.proofs.Common.{◌≡◌, ◌≤◌, ℕ, Bool, true, false, List, [], ◌∷◌, Option, Some, None, refl, ap, ◌∙◌, subst, arith}
+use Rattle.std.proofs.Common.{◌≡◌, ◌≤◌, ℕ, Bool, true, false, List, [], ◌∷◌, Option, Some, None, refl, arith}
 use Rattle.react_core.specs.declared.outside.Report.{Report}
 use Rattle.react_core.specs.declared.reactor.Dir.{Dir}
 use Rattle.react_core.specs.declared.reactor.Dir.TheVariants.{Read, Write}
 use Rattle.react_core.specs.Keyed.{at_key, Each}
 use Rattle.react_core.specs.Places.{Entry, Direction, Source}
 use Rattle.react_core.specs.Reports.{marked, without_task, without_tasks, reported, after_report_of, after_report, after_reports}
-use Rattle.react_core.specs.Sources.{source_of, with_source, with_new, new_source, idle, side, with_side, HasBegunBy, IsDated, IsDatedSource, AllDated}
+use Rattle.react_core.specs.Sources.{source_of, with_new, new_source, idle, side, with_side, HasBegunBy, IsDated, IsDatedSource, AllDated}
 use Rattle.react_core.specs.Asking.{after_direction, after_outcome}
 use Rattle.react_core.specs.Futures.{is_fired, polled_futures, with_future, after_future, without_future}
 use Rattle.react_core.specs.Readiness.{Outcome, Fires, Stays, Begins, direction_outcome}
@@ -31,7 +31,8 @@ dated-marked true ticker d dated = record {
   futures = dated-futures ticker d.futures dated.futures;
 }
 
-dated-report_of : (ticker : ℕ) (sources : List (ℕ × Source)) (r : Report) (o : Option Source) → source_of sources r.key ≡ o → AllDated ticker sources → AllDated ticker (after_report_of ticker sources r o)
+dated-report_of : (ticker : ℕ) (sources : List (ℕ × Source)) (r : Report) (o : Option Source) → source_of sources r.key ≡ o → AllDated ticker sources →
+    AllDated ticker (after_report_of ticker sources r o)
 dated-report_of ticker sources r None is dated = dated
 dated-report_of ticker sources r (Some s) is dated =
     let one = Each-at_key (IsDatedSource ticker) sources r.key s dated is in

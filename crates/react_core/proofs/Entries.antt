@@ -1,17 +1,15 @@
 -- The code's places of futures, and what contracts see of them.
-use Rattle.std.proofs.Common.{◌≡◌, ◌+◌, ◌<◌, ◌≤◌, ◌++◌, ℕ, suc, Bool, true, false, List, [], ◌∷◌, Option, Some, None, is_some, length, map, refl, sym, ap, ◌∙◌, arith, length-append}
+use Rattle.std.proofs.Common.{◌≡◌, ◌+◌, ◌++◌, ℕ, suc, Bool, true, false, List, [], ◌∷◌, Option, Some, None, is_some, length, map, refl, sym, ap, ◌∙◌, arith, length-append}
 use Rattle.std.proofs.lemmas.Bool.Decides.{nat_tests}
 use Rattle.std.specs.Prelude.{◌==◌, nat_lt, if◌then◌else◌, ◌||◌}
 use Rattle.std.specs.Option.{option_to_list}
-use Rattle.slab.specs.Slab.{Slab, entries, entries_from, slab_len, get}
-use Rattle.slab.proofs.SlabLemmas.{length-entries}
+use Rattle.slab.specs.Slab.{entries_from}
 use Rattle.react_core.specs.declared.interest.Waiting.{Waiting}
-use Rattle.react_core.specs.Keyed.{at_key, with_at, with_new_at, without_at, Each, sum_at}
+use Rattle.react_core.specs.Keyed.{at_key, with_at, with_new_at, without_at, sum_at}
 use Rattle.react_core.specs.Places.{Entry}
-use Rattle.react_core.specs.Reports.{future_tasks, without_tasks, task_of}
+use Rattle.react_core.specs.Reports.{future_tasks, without_tasks}
 use Rattle.react_core.specs.Sources.{some_task}
-use Rattle.react_core.specs.Ticks.{entry_of, place_of, futures_of, IsTied, taken_slot, slot_tasks}
-use Rattle.react_core.proofs.Tables.{at_key-entries}
+use Rattle.react_core.specs.Ticks.{entry_of, place_of, futures_of, taken_slot, slot_tasks}
 
 pub length-futures_of : (places : List (ℕ × Waiting)) → length (futures_of places) ≡ length places
 length-futures_of [] = refl

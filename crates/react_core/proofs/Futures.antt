@@ -1,6 +1,6 @@
 -- What a poll at a future's place does, by its direction.
-use Rattle.std.proofs.Common.{◌≡◌, ◌+◌, ℕ, Bool, true, false, List, [], ◌∷◌, Option, Some, None, is_some, length, Result, Ok, Err, refl, sym, ap, ◌∙◌, subst, arith}
-use Rattle.std.specs.Prelude.{if◌then◌else◌, IsSome}
+use Rattle.std.proofs.Common.{◌≡◌, ◌+◌, ℕ, Bool, true, false, List, [], Option, Some, None, is_some, length, Ok, Err, refl, sym, ap, ◌∙◌}
+use Rattle.std.specs.Prelude.{if◌then◌else◌}
 use Rattle.futures.specs.declared.task.Poll.{Poll}
 use Rattle.react_core.specs.declared.reactor.Dir.{Dir}
 use Rattle.react_core.specs.declared.reactor.Dir.TheVariants.{Read, Write}
@@ -9,13 +9,13 @@ use Rattle.react_core.specs.declared.reactor.ReactError.TheVariants.{Poller, Out
 use Rattle.react_core.specs.Asking.{arming_for, ask_told}
 use Rattle.react_core.specs.Causes.{ReactCounted}
 use Rattle.react_core.specs.Core.{Core}
-use Rattle.react_core.specs.Futures.{is_fired, asks, polled_futures, with_future, after_future, future_answer, held_place, entry_given, direction_of, direction_at, futures_at}
+use Rattle.react_core.specs.Futures.{is_fired, asks, polled_futures, with_future, after_future, future_answer, held_place, entry_given, direction_of, direction_at}
 use Rattle.react_core.specs.Futures.{future_fresh, after_source_future, after_future_poll, future_told, IsFutureRefusal}
 use Rattle.react_core.specs.Keyed.{at_key}
 use Rattle.react_core.specs.Places.{Entry, Direction, Source}
 use Rattle.react_core.specs.Readiness.{is_ready, armed}
 use Rattle.react_core.specs.Reports.{Arming}
-use Rattle.react_core.specs.Sources.{source_of, with_source, side, with_side, waits}
+use Rattle.react_core.specs.Sources.{source_of, with_source, side, with_side}
 use Rattle.react_core.proofs.Keyed.{length-with_at, length-with_new_at}
 use Rattle.react_core.proofs.Totals.{with_at-same}
 
@@ -69,7 +69,8 @@ after_future-first ticker task d place free = rw free refl
 
 -- ---- refusals
 
-pub refusal-asked : (T U : Type 0) (e : ReactError) (d : Direction) (entry : Option Entry) (before now : ℕ) → ReactCounted {T = T} (Err e) before now → asks d entry ≡ true → IsFutureRefusal {T = U} (Err e) d entry
+pub refusal-asked : (T U : Type 0) (e : ReactError) (d : Direction) (entry : Option Entry) (before now : ℕ) → ReactCounted {T = T} (Err e) before now → asks d entry ≡ true →
+    IsFutureRefusal {T = U} (Err e) d entry
 refusal-asked T U Poller d entry before now counted asked = asked
 refusal-asked T U OutOfMemory d None before now counted asked = tt
 refusal-asked T U OutOfMemory d (Some e) before now counted asked = asked

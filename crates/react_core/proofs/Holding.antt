@@ -1,8 +1,8 @@
 -- A direction's table of futures, as places are stored at, added and taken out.
-use Rattle.std.proofs.Common.{◌≡◌, ◌+◌, ◌-◌, ◌<◌, ◌≤◌, ℕ, Bool, true, false, List, [], ◌∷◌, Option, Some, None, is_some, length, map, refl, sym, ap, ◌∙◌, subst, arith}
+use Rattle.std.proofs.Common.{◌≡◌, ◌+◌, ◌-◌, ◌<◌, ◌≤◌, ℕ, Bool, true, false, List, [], ◌∷◌, Option, Some, None, is_some, length, refl, sym, ap, ◌∙◌, subst, arith}
 use Rattle.std.specs.Option.{option_to_list}
 use Rattle.std.proofs.lemmas.Bool.Decides.{nat_tests}
-use Rattle.slab.specs.Slab.{Slab, entries, entries_from, get, with_value, Updates, slab_len}
+use Rattle.slab.specs.Slab.{Slab, entries, get, with_value, Updates, slab_len}
 use Rattle.slab.proofs.SlabLemmas.{Updates-with_value, length-entries}
 use Rattle.react_core.specs.declared.interest.Waiting.{Waiting}
 use Rattle.react_core.specs.Keyed.{at_key, with_at, with_new_at, without_at, Each, sum_at}
@@ -182,7 +182,8 @@ module _ (table : Slab Waiting) (place taken task : ℕ) (w : Waiting) (counted 
 
   pub counts-stored_waiting : is_some w.task ≡ true → IsCounted taken (with_value table place (record w { task = Some task }))
   counts-stored_waiting some =
-      counted-as taken (with_value table place (record w { task = Some task })) _ stored (stored-waiting (futures_in table) place taken task (entry_of w) (counted-in taken table counted) (held-entry table place w found) some)
+      counted-as taken (with_value table place (record w { task = Some task })) _ stored (stored-waiting (futures_in table) place taken task (entry_of w) (counted-in taken table counted)
+      (held-entry table place w found) some)
 
 pub counts-come : (old new : Slab Waiting) (place taken task : ℕ) (w : Waiting) → IsCounted taken old → get old place ≡ None → Updates old new place (Some w) → w.task ≡ Some task → IsCounted taken new
 counts-come old new place taken task w counted free updates is =

@@ -1,12 +1,11 @@
 -- A source in the table, looked up once and written back.
-use Rattle.std.proofs.Common.{◌≡◌, ℕ, Bool, true, false, List, [], ◌∷◌, Option, Some, None, is_some, refl, sym, ap, ◌∙◌}
-use Rattle.std.specs.Prelude.{◌||◌}
+use Rattle.std.proofs.Common.{◌≡◌, ℕ, List, Option, Some, is_some, sym, ap, ◌∙◌}
 use Rattle.slab.specs.Slab.{Slab, entries, get, with_value}
 use Rattle.slab.proofs.SlabLemmas.{Updates-with_value}
 use Rattle.react_core.specs.declared.outside.Report.{Report}
 use Rattle.react_core.specs.Places.{Source}
-use Rattle.react_core.specs.Reports.{reported, after_report, after_report_of, taken_by, taken_by_of, armings_by, armings_by_of, arming_of}
-use Rattle.react_core.specs.Sources.{source_of, with_source, waits}
+use Rattle.react_core.specs.Reports.{after_report, after_report_of, taken_by, taken_by_of, armings_by, armings_by_of}
+use Rattle.react_core.specs.Sources.{source_of, with_source}
 use Rattle.react_core.proofs.Tables.{at_key-entries, entries-written}
 
 module _ (table : Slab Source) (key : ℕ) where

@@ -1,5 +1,5 @@
 -- A direction that a report names: its tick is the round's, and its tasks are taken.
-use Rattle.std.proofs.Common.{◌≡◌, ◌+◌, ◌<◌, ◌≤◌, ◌++◌, ◌⊎◌, ℕ, Bool, true, false, List, [], ◌∷◌, Option, Some, None, length, map, refl, sym, ap, ◌∙◌, subst, inl, inr, arith, append_assoc, length-append}
+use Rattle.std.proofs.Common.{◌≡◌, ◌+◌, ◌<◌, ◌≤◌, ◌++◌, ◌⊎◌, ℕ, true, List, [], ◌∷◌, Option, Some, None, length, map, refl, sym, ap, ◌∙◌, inl, inr, arith, append_assoc, length-append}
 use Rattle.std.proofs.lemmas.Bool.{cases_order}
 use Rattle.std.proofs.lemmas.List.{append-nil}
 use Rattle.slab.specs.Slab.{Slab, entries, entries_from, slab_len}
@@ -9,7 +9,7 @@ use Rattle.react_core.specs.Keyed.{Each}
 use Rattle.react_core.specs.Places.{Entry, Direction, last_round, begun_number}
 use Rattle.react_core.specs.Reports.{marked, without_task, without_tasks, task_of, future_tasks, tasks_of}
 use Rattle.react_core.specs.Sources.{HasBegunBy}
-use Rattle.react_core.specs.Ticks.{entry_of, place_of, futures_of, IsTied, IsTiedPlace, taken_slot, slot_tasks}
+use Rattle.react_core.specs.Ticks.{place_of, futures_of, IsTied, IsTiedPlace, taken_slot, slot_tasks}
 use Rattle.react_core.proofs.Entries.{slot_tasks-from, without_tasks-from, length-taken, without_tasks-none}
 use Rattle.react_core.proofs.Holding.{futures_in, IsCounted}
 
@@ -70,7 +70,8 @@ module _ (old new : Slab Waiting) (taken : new.slots ≡ map taken_slot old.slot
       direction (last_round ticker) (place_of polled') (futures_in new) ≡ marked true ticker (direction (last_round tick) (place_of polled) (futures_in old))
   direction-marked tick ticker polled polled' begun is = rw (begun_number ticker begun, is, without_task-taken, futures-taken) refl
 
-pub hands-marked : (table : Slab Waiting) (polled : Option Waiting) (reported : Option ℕ) (hands mid hands' : List ℕ) → mid ≡ hands ++ task_of (place_of polled) → hands' ≡ mid ++ slot_tasks table.slots →
+pub hands-marked : (table : Slab Waiting) (polled : Option Waiting) (reported : Option ℕ) (hands mid hands' : List ℕ) → mid ≡ hands ++ task_of (place_of polled) →
+    hands' ≡ mid ++ slot_tasks table.slots →
     hands' ≡ hands ++ tasks_of (direction reported (place_of polled) (futures_in table))
 hands-marked table polled reported hands mid hands' first second =
     second ∙ ap (λ hs. hs ++ slot_tasks table.slots) first ∙ append_assoc hands (task_of (place_of polled)) (slot_tasks table.slots)
@@ -78,7 +79,9 @@ hands-marked table polled reported hands mid hands' first second =
 
 pub length-tasks_of : (table : Slab Waiting) (polled : Option Waiting) (reported : Option ℕ) →
     length (tasks_of (direction reported (place_of polled) (futures_in table))) ≡ length (task_of (place_of polled)) + length (slot_tasks table.slots)
-length-tasks_of table polled reported = length-append (task_of (place_of polled)) (future_tasks (futures_in table)) ∙ ap (λ ts. length (task_of (place_of polled)) + length ts) (slot_tasks-from 0 table.slots)
+length-tasks_of table polled reported =
+    length-append (task_of (place_of polled)) (future_tasks (futures_in table))
+    ∙ ap (λ ts. length (task_of (place_of polled)) + length ts) (slot_tasks-from 0 table.slots)
 
 -- ---- no future's task waits
 

@@ -1,5 +1,5 @@
 -- How many places futures hold at all sources.
-use Rattle.std.proofs.Common.{◌≡◌, ◌+◌, ◌≤◌, ℕ, suc, Bool, true, false, List, [], ◌∷◌, Option, Some, None, length, refl, sym, ap, ◌∙◌, arith}
+use Rattle.std.proofs.Common.{◌≡◌, ◌+◌, ℕ, suc, Bool, true, false, List, [], ◌∷◌, Option, Some, None, length, refl, ap, ◌∙◌, arith}
 use Rattle.react_core.specs.declared.outside.Report.{Report}
 use Rattle.react_core.specs.declared.reactor.Dir.{Dir}
 use Rattle.react_core.specs.declared.reactor.Dir.TheVariants.{Read, Write}

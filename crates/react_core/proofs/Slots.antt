@@ -1,5 +1,5 @@
 -- Slots whose tasks are taken one after another.
-use Rattle.std.proofs.Common.{◌≡◌, ◌+◌, ◌<◌, ◌≤◌, ◌++◌, ℕ, suc, zero, List, [], ◌∷◌, Option, Some, None, length, map, set, get_or, refl, sym, ap, ◌∙◌, arith, append_assoc, length-append}
+use Rattle.std.proofs.Common.{◌≡◌, ◌+◌, ◌≤◌, ◌++◌, ℕ, suc, zero, List, [], ◌∷◌, Option, Some, None, length, map, set, get_or, refl, sym, ap, ◌∙◌, arith, append_assoc, length-append}
 use Rattle.std.proofs.lemmas.List.{append-nil}
 use Rattle.react_core.specs.declared.interest.Waiting.{Waiting}
 use Rattle.react_core.specs.Reports.{task_of}

@@ -1,5 +1,5 @@
 -- A direction of a source in the table is looked up, and written back.
-use Rattle.std.proofs.Common.{◌≡◌, ◌+◌, ◌-◌, ◌≤◌, ℕ, Bool, true, false, List, Option, Some, None, is_some, length, refl, sym, ap, ◌∙◌, subst, arith}
+use Rattle.std.proofs.Common.{◌≡◌, ◌+◌, ℕ, List, Option, Some, is_some, length, refl, sym, ap, ◌∙◌, arith}
 use Rattle.std.proofs.lemmas.Bool.Decides.{nat_tests}
 use Rattle.std.specs.Prelude.{◌==◌, if◌then◌else◌}
 use Rattle.slab.specs.Slab.{Slab, entries, get, with_value}
@@ -7,8 +7,7 @@ use Rattle.react_core.specs.declared.reactor.Dir.{Dir}
 use Rattle.react_core.specs.declared.reactor.Dir.TheVariants.{Read, Write}
 use Rattle.react_core.specs.Core.{Core, ReactorState}
 use Rattle.react_core.specs.Futures.{direction_of}
-use Rattle.react_core.specs.Keyed.{at_key}
-use Rattle.react_core.specs.Places.{Entry, Direction, Source}
+use Rattle.react_core.specs.Places.{Direction, Source}
 use Rattle.react_core.specs.Sources.{source_of, with_source, side, with_side, all_places, IsDated, IsDatedSource, AllDated}
 use Rattle.react_core.proofs.Dated.{dated-side, dated-with_side}
 use Rattle.react_core.proofs.Keyed.{length-with_at, at_key-with_at}
@@ -39,7 +38,9 @@ module _ (table : Slab Source) (key : ℕ) (s : Source) (dir : Dir) (at : Some s
   turned-is d = written-in table key s (with_side dir s d) (sym at)
 
   pub turned-same : (d : Direction) → d ≡ side dir s → turned table key s dir d ≡ entries table
-  turned-same d is = turned-is d ∙ ap (λ x. with_source (entries table) key (with_side dir s x)) is ∙ ap (with_source (entries table) key) (with_side-same dir s) ∙ with_at-same (entries table) key s found-at
+  turned-same d is =
+      turned-is d ∙ ap (λ x. with_source (entries table) key (with_side dir s x)) is ∙ ap (with_source (entries table) key) (with_side-same dir s)
+      ∙ with_at-same (entries table) key s found-at
 
   pub length-turned : (d : Direction) → length (turned table key s dir d) ≡ length (entries table)
   length-turned d = ap length (turned-is d) ∙ length-with_at (entries table) key (with_side dir s d)

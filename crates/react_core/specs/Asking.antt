@@ -7,7 +7,7 @@ use Rattle.react_core.specs.declared.outside.Event.TheVariants as event
 use Rattle.react_core.specs.declared.reactor.Dir.{Dir}
 use Rattle.react_core.specs.declared.reactor.ReactError.{ReactError}
 use Rattle.react_core.specs.declared.reactor.ReactError.TheVariants.{Poller, OutOfMemory, Exhausted}
-use Rattle.react_core.specs.Places.{Entry, Direction, Source}
+use Rattle.react_core.specs.Places.{Direction, Source}
 use Rattle.react_core.specs.Readiness.{Outcome, Fires, Stays, Begins, direction_outcome, is_read, is_write}
 use Rattle.react_core.specs.Reports.{Arming, armed_told}
 use Rattle.react_core.specs.Sources.{waits}

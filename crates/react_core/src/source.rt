@@ -1,10 +1,9 @@
 //! Sources, and the table that holds them by their keys.
-ghost use Rattle.std.specs.Prelude.{◌≡◌, ◌+◌, ◌++◌, ◌*◌, ◌≤◌, ◌<◌, ◌^◌, false, None, Some, IfOk, IfSome, OnOk, length, vec_len};
-ghost use Rattle.std.specs.Prelude.{vec_capacity};
+ghost use Rattle.std.specs.Prelude.{◌≡◌, ◌+◌, ◌++◌, ◌*◌, ◌≤◌, ◌<◌, ◌^◌, false, None, Some, IfOk, IfSome, OnOk, length};
+ghost use Rattle.std.specs.Prelude.{vec_len, vec_capacity};
 ghost use Rattle.std.specs.Borrow.{sem};
 ghost use Rattle.slab.specs.Slab.{entries, HasRoomFor};
-ghost use Rattle.react_core.specs.Sources.{source_of, with_new, without, places_of, new_source, side};
-ghost use Rattle.react_core.specs.Sources.{IsDatedSource};
+ghost use Rattle.react_core.specs.Sources.{source_of, with_new, without, places_of, new_source, side, IsDatedSource};
 
 use crate::interest::{Arming, Interest};
 use crate::outside::{Fault, OutOfMemory, Registrar, Report};

@@ -1,7 +1,6 @@
-use Rattle.std.proofs.Common.{◌≡◌, ◌∙◌, ◌++◌, ◌+◌, sym, ap, refl, None, Some, get_or, set, length, add-one, add-zero, arith, vec_len, vec_capacity}
+use Rattle.std.proofs.Common.{◌≡◌, ◌∙◌, ◌++◌, sym, ap, refl, None, Some, get_or, set, length, add-one, add-zero, arith, vec_len, vec_capacity}
 use Rattle.std.proofs.lemmas.List.{append-nil}
 use Rattle.std.specs.Option.{option_copied_mut}
-use Rattle.react_core.specs.declared.interest.Waiting.{Waiting}
 use Rattle.react_core.proofs.Slots.{taken_to-next, taken_to-none, taken_to-more, taken_to-free, taken_to-all, tasks_to-none, tasks_to-all, hands-more, len-more, room-more}
 use Rattle.react_core.proofs.interest.take_futures.Goals.{in-Some, in_default}
 use Rattle.react_core.proofs.interest.take_futures.Goals as goal

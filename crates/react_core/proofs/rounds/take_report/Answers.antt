@@ -1,8 +1,7 @@
-use Rattle.std.proofs.Common.{◌∙◌, ◌++◌, sym, ap, refl, Some, None, length, arith}
+use Rattle.std.proofs.Common.{◌∙◌, ◌++◌, sym, ap, Some, None, length, arith}
 use Rattle.std.proofs.lemmas.List.{append-nil}
 use Rattle.std.specs.Option.{option_copied_mut}
 use Rattle.slab.specs.Slab.{entries}
-use Rattle.react_core.specs.Places.{Source}
 use Rattle.react_core.specs.Sources.{IsDatedSource, with_source}
 use Rattle.react_core.specs.Told.{told, told-nothing}
 use Rattle.react_core.specs.Reports.{tries_told, tries_of, arming_of}
@@ -12,7 +11,8 @@ use Rattle.react_core.proofs.rounds.take_report.Goals as goal
 
 pub returns-in_default-clause-sources : goal.returns-in_default-clause-sources
 returns-in_default-clause-sources g c =
-    sym (after-found c.args.ticker (entries c.args.sources.now) c.args.report None (found-in c.args.sources.now c.args.report.key None (ap option_copied_mut (sym c.in_default.is) ∙ c.get_mut.follows)))
+    sym (after-found c.args.ticker (entries c.args.sources.now) c.args.report None (found-in c.args.sources.now c.args.report.key None (ap option_copied_mut (sym c.in_default.is)
+    ∙ c.get_mut.follows)))
 
 pub returns-in_default-clause-hands : goal.returns-in_default-clause-hands
 returns-in_default-clause-hands g c =

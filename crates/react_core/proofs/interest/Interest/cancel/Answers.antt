@@ -1,6 +1,5 @@
-use Rattle.std.proofs.Common.{◌≡◌, ◌∙◌, sym, ap, is_some, true, false, Some, None, refl}
+use Rattle.std.proofs.Common.{◌∙◌, sym, ap, refl}
 use Rattle.std.specs.Prelude.{not}
-use Rattle.slab.specs.Slab.{get}
 use Rattle.react_core.specs.Ticks.{place_of}
 use Rattle.react_core.proofs.Holding.{counts-gone_taken, counts-gone_waiting, tied-gone, held-entry, entries-gone, at_key-futures_in}
 use Rattle.react_core.proofs.interest.Interest.cancel.Goals as goal

@@ -1,6 +1,6 @@
 use Rattle.std.proofs.Common.{◌∙◌, ◌++◌, sym, ap, length, arith}
-use Rattle.react_core.specs.Places.{Direction, last_round}
-use Rattle.slab.specs.Slab.{entries, slab_len}
+use Rattle.react_core.specs.Places.{last_round}
+use Rattle.slab.specs.Slab.{entries}
 use Rattle.react_core.proofs.Marking.{direction-marked, direction-unwaited, hands-marked, length-tasks_of, tasks_of-unwaited, tied-marked, tied-later, tied_place-marked, counts-marked}
 use Rattle.react_core.proofs.interest.Interest.mark.Goals as goal
 
@@ -62,5 +62,6 @@ returns-else-self-places-clause-len c =
     (omega (
       arith,
       c.take_polled.ensures.len,
-      ap length (tasks_of-unwaited c.self.inside.futures c.self.inside.taken c.self.invariant.taken (rw c.len-places.ensures at c.if-self-places.false) c.self.inside.polled (last_round c.self.inside.tick)),
+      ap length (tasks_of-unwaited c.self.inside.futures c.self.inside.taken c.self.invariant.taken (rw c.len-places.ensures at c.if-self-places.false) c.self.inside.polled
+          (last_round c.self.inside.tick)),
     ))

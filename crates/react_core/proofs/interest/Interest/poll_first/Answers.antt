@@ -1,9 +1,8 @@
-use Rattle.std.proofs.Common.{◌∙◌, sym, ap, refl, inl, inr}
+use Rattle.std.proofs.Common.{◌∙◌, ap, refl, inl, inr}
 use Rattle.slab.specs.Slab.{entries}
 use Rattle.react_core.specs.declared.interest.Waiting.{Waiting}
-use Rattle.react_core.specs.Keyed.{at_key}
 use Rattle.react_core.specs.Places.{Direction}
-use Rattle.react_core.specs.Ticks.{futures_of, place_of}
+use Rattle.react_core.specs.Ticks.{place_of}
 use Rattle.react_core.proofs.Holding.{counts-come, counts-roomy, tied-come, tied-roomy, tied-new, entries-come, at_key-futures_in}
 use Rattle.react_core.proofs.interest.Interest.poll_first.Goals as goal
 

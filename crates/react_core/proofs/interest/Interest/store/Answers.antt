@@ -24,7 +24,8 @@ invariant_of-self c =
     record {
       polled = c.self.invariant.polled;
       futures = tied-stored c.self.inside.tick c.self.inside.futures c.args.place c.args.task c.in-Some.waiting.now c.self.invariant.futures found;
-      taken = (counts-stored_taken c.self.inside.futures c.args.place c.self.inside.taken c.args.task c.in-Some.waiting.now c.self.invariant.taken found (c.is_none.ensures ∙ ap not c.if-is_none.true)).1;
+      taken = (counts-stored_taken c.self.inside.futures c.args.place c.self.inside.taken c.args.task c.in-Some.waiting.now c.self.invariant.taken found (c.is_none.ensures
+          ∙ ap not c.if-is_none.true)).1;
     }
 
 pub invariant_of-self-else-is_none : goal.invariant_of-self-else-is_none
@@ -33,7 +34,8 @@ invariant_of-self-else-is_none c =
     record {
       polled = c.self.invariant.polled;
       futures = tied-stored c.self.inside.tick c.self.inside.futures c.args.place c.args.task c.in-Some.waiting.now c.self.invariant.futures found;
-      taken = counts-stored_waiting c.self.inside.futures c.args.place c.self.inside.taken c.args.task c.in-Some.waiting.now c.self.invariant.taken found (c.is_none.ensures ∙ ap not c.if-is_none.false);
+      taken = counts-stored_waiting c.self.inside.futures c.args.place c.self.inside.taken c.args.task c.in-Some.waiting.now c.self.invariant.taken found (c.is_none.ensures
+          ∙ ap not c.if-is_none.false);
     }
 
 pub returns-then-is_none : goal.returns-then-is_none

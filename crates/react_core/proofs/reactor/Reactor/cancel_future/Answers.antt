@@ -1,6 +1,5 @@
-use Rattle.std.proofs.Common.{◌≡◌, ◌∙◌, sym, ap, refl, Some, None, [], length, is_some, true, false, arith, rules}
+use Rattle.std.proofs.Common.{◌∙◌, sym, ap, refl, None, [], length, is_some, arith}
 use Rattle.std.specs.Option.{option_copied_mut}
-use Rattle.slab.specs.Slab.{entries}
 use Rattle.react_core.specs.Core.{ReactorState}
 use Rattle.react_core.specs.Futures.{without_future, direction_of}
 use Rattle.react_core.specs.Keyed.{at_key}
@@ -36,17 +35,21 @@ overflow_sub-self c =
 
 pub invariant_of-self-then-cancel : goal.invariant_of-self-then-cancel
 invariant_of-self-then-cancel c =
+    let table = c.self.inside.sources in
+    let s = c.in-Some.source.now in
+    let key = c.args.key in
+    let dir = c.args.dir in
     let at = ap option_copied_mut (sym c.in-Some.is) ∙ c.get_mut.follows in
     let held = length-without_some c.side_mut.result.now.futures c.args.place (sym c.cancel.ensures.held ∙ c.if-cancel.true) in
     let before = ap (λ (d : Direction). length d.futures) c.side_mut.ensures.value in
     let after = ap (λ (d : Direction). length d.futures) c.cancel.ensures.direction in
     let is = c.cancel.ensures.direction ∙ ap (λ d. without_future d c.args.place) c.side_mut.ensures.value in
     record {
-      room = omega (arith, length-turned c.self.inside.sources c.args.key c.in-Some.source.now c.args.dir at c.cancel.new.self, c.self.invariant.room);
-      places = omega (arith, held, before, after, places-turned c.self.inside.sources c.args.key c.in-Some.source.now c.args.dir at c.cancel.new.self, c.self.invariant.places);
-      dated = dated-turned c.self.inside.sources c.args.key c.in-Some.source.now c.args.dir at c.self.inside.ticker c.cancel.new.self c.self.invariant.dated
-          (rw is (dated-without_future c.self.inside.ticker (side c.args.dir c.in-Some.source.now) c.args.place
-          (dated-at c.self.inside.sources c.args.key c.in-Some.source.now c.args.dir at c.self.inside.ticker c.self.invariant.dated)));
+      room = omega (arith, length-turned table key s dir at c.cancel.new.self, c.self.invariant.room);
+      places = omega (arith, held, before, after, places-turned table key s dir at c.cancel.new.self, c.self.invariant.places);
+      dated = dated-turned table key s dir at c.self.inside.ticker c.cancel.new.self c.self.invariant.dated
+          (rw is (dated-without_future c.self.inside.ticker (side dir s) c.args.place
+          (dated-at table key s dir at c.self.inside.ticker c.self.invariant.dated)));
       numbered = c.self.invariant.numbered;
     }
 
@@ -65,12 +68,16 @@ invariant_of-self-else-cancel c =
 
 pub returns-then-cancel-clause-core : goal.returns-then-cancel-clause-core
 returns-then-cancel-clause-core c =
+    let table = c.self.inside.sources in
+    let s = c.in-Some.source.now in
+    let key = c.args.key in
+    let dir = c.args.dir in
     let at = ap option_copied_mut (sym c.in-Some.is) ∙ c.get_mut.follows in
     let is = c.cancel.ensures.direction ∙ ap (λ d. without_future d c.args.place) c.side_mut.ensures.value in
     rw (
       ← c.self.view_is,
-      found-at c.self.inside.sources c.args.key c.in-Some.source.now c.args.dir at,
-      turned-is c.self.inside.sources c.args.key c.in-Some.source.now c.args.dir at,
+      found-at table key s dir at,
+      turned-is table key s dir at,
       is,
     ) refl
 
@@ -79,18 +86,24 @@ returns-then-cancel-clause-step c known = record { known = known; wakes = refl; 
 
 pub returns-then-cancel-clause-steps : goal.returns-then-cancel-clause-steps
 returns-then-cancel-clause-steps c =
+    let key = c.args.key in
+    let dir = c.args.dir in
     let at = ap option_copied_mut (sym c.in-Some.is) ∙ c.get_mut.follows in
-    one-step (Cancel c.args.key c.args.dir c.args.place) Done []
-    (returns-then-cancel-clause-step c (rw (← c.self.view_is, found-at c.self.inside.sources c.args.key c.in-Some.source.now c.args.dir at) refl))
+    one-step (Cancel key dir c.args.place) Done []
+    (returns-then-cancel-clause-step c (rw (← c.self.view_is, found-at c.self.inside.sources key c.in-Some.source.now dir at) refl))
 
 pub returns-else-cancel-clause-core : goal.returns-else-cancel-clause-core
 returns-else-cancel-clause-core c =
+    let table = c.self.inside.sources in
+    let s = c.in-Some.source.now in
+    let key = c.args.key in
+    let dir = c.args.dir in
     let at = ap option_copied_mut (sym c.in-Some.is) ∙ c.get_mut.follows in
     let is = c.cancel.ensures.direction ∙ ap (λ d. without_future d c.args.place) c.side_mut.ensures.value in
     rw (
       ← c.self.view_is,
-      found-at c.self.inside.sources c.args.key c.in-Some.source.now c.args.dir at,
-      turned-is c.self.inside.sources c.args.key c.in-Some.source.now c.args.dir at,
+      found-at table key s dir at,
+      turned-is table key s dir at,
       is,
     ) refl
 
@@ -99,9 +112,11 @@ returns-else-cancel-clause-step c known = record { known = known; wakes = refl; 
 
 pub returns-else-cancel-clause-steps : goal.returns-else-cancel-clause-steps
 returns-else-cancel-clause-steps c =
+    let key = c.args.key in
+    let dir = c.args.dir in
     let at = ap option_copied_mut (sym c.in-Some.is) ∙ c.get_mut.follows in
-    one-step (Cancel c.args.key c.args.dir c.args.place) Done []
-    (returns-else-cancel-clause-step c (rw (← c.self.view_is, found-at c.self.inside.sources c.args.key c.in-Some.source.now c.args.dir at) refl))
+    one-step (Cancel key dir c.args.place) Done []
+    (returns-else-cancel-clause-step c (rw (← c.self.view_is, found-at c.self.inside.sources key c.in-Some.source.now dir at) refl))
 
 pub returns-in_default-clause-gone : goal.returns-in_default-clause-gone
 returns-in_default-clause-gone c =
@@ -120,9 +135,12 @@ returns-else-cancel-clause-gone c =
 
 pub returns-then-cancel-clause-absent : goal.returns-then-cancel-clause-absent
 returns-then-cancel-clause-absent c absent =
+    let s = c.in-Some.source.now in
+    let key = c.args.key in
+    let dir = c.args.dir in
     let at = ap option_copied_mut (sym c.in-Some.is) ∙ c.get_mut.follows in
-    let here = found-at c.self.inside.sources c.args.key c.in-Some.source.now c.args.dir at in
-    let side = direction-at (the_view c.self.inside).core c.args.key c.args.dir c.in-Some.source.now here ∙ sym c.side_mut.ensures.value in
+    let here = found-at c.self.inside.sources key s dir at in
+    let side = direction-at (the_view c.self.inside).core key dir s here ∙ sym c.side_mut.ensures.value in
     let none = ap (λ (d : Direction). at_key d.futures c.args.place) (sym side) ∙ (rw (← c.self.view_is) at absent) in
     absurd (let test = sym c.cancel.ensures.held ∙ c.if-cancel.true in let nothing = ap is_some none in cc)
 

@@ -14,7 +14,14 @@ use Rattle.react_core.proofs.reactor.Reactor.remove_io.Goals as goal
 pub invariant_of-self : goal.invariant_of-self
 invariant_of-self g c = record {
   room = omega (arith, ap length c.take_out.ensures.entries, length-without_at, c.self.invariant.room);
-  places = omega (arith, places-without (entries c.self.inside.sources) c.args.key c.in-Some.source (sym c.take_out.ensures.source ∙ c.in-Some.is), c.places.ensures, c.self.invariant.places, ap all_places c.take_out.ensures.entries);
+  places = omega (
+    arith,
+    places-without (entries c.self.inside.sources) c.args.key c.in-Some.source (sym c.take_out.ensures.source
+        ∙ c.in-Some.is),
+    c.places.ensures,
+    c.self.invariant.places,
+    ap all_places c.take_out.ensures.entries,
+  );
   dated = rw c.take_out.ensures.entries (Each-without_at (IsDatedSource c.self.inside.ticker) _ _ c.self.invariant.dated);
   numbered = c.self.invariant.numbered;
 }
@@ -22,7 +29,14 @@ invariant_of-self g c = record {
 pub invariant_of-self-2 : goal.invariant_of-self-2
 invariant_of-self-2 g c = record {
   room = omega (arith, ap length c.take_out.ensures.entries, length-without_at, c.self.invariant.room);
-  places = omega (arith, places-without (entries c.self.inside.sources) c.args.key c.in-Some.source (sym c.take_out.ensures.source ∙ c.in-Some.is), c.places.ensures, c.self.invariant.places, ap all_places c.take_out.ensures.entries);
+  places = omega (
+    arith,
+    places-without (entries c.self.inside.sources) c.args.key c.in-Some.source (sym c.take_out.ensures.source
+        ∙ c.in-Some.is),
+    c.places.ensures,
+    c.self.invariant.places,
+    ap all_places c.take_out.ensures.entries,
+  );
   dated = rw c.take_out.ensures.entries (Each-without_at (IsDatedSource c.self.inside.ticker) _ _ c.self.invariant.dated);
   numbered = c.self.invariant.numbered;
 }
@@ -49,4 +63,11 @@ pub places-requires : goal.places-requires
 places-requires g c = omega (arith, places-without (entries c.self.inside.sources) c.args.key c.in-Some.source (sym c.take_out.ensures.source ∙ c.in-Some.is), c.self.invariant.places)
 
 pub overflow_sub-self : goal.overflow_sub-self
-overflow_sub-self g c = omega (arith, places-without (entries c.self.inside.sources) c.args.key c.in-Some.source (sym c.take_out.ensures.source ∙ c.in-Some.is), c.places.ensures, c.self.invariant.places)
+overflow_sub-self g c =
+    omega (
+      arith,
+      places-without (entries c.self.inside.sources) c.args.key c.in-Some.source (sym c.take_out.ensures.source
+          ∙ c.in-Some.is),
+      c.places.ensures,
+      c.self.invariant.places,
+    )
