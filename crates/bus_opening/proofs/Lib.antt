@@ -4,7 +4,6 @@ mod Joined
 mod HexLemmas
 mod FeedLen
 mod OutboxLemmas
-mod TextLemmas
 mod AskLemmas
 mod LineLemmas
 mod Feeds
@@ -16,4 +15,3 @@ mod Looking
 mod Worked
 mod WorkedServer
 mod Starting
-mod Users

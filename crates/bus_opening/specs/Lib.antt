@@ -20,3 +20,4 @@ pub mod Nexts
 pub mod Ends
 pub mod ClientReplies
 pub mod ServerReplies
+pub mod laws

@@ -10,6 +10,7 @@ use Rattle.react_core.specs.declared.reactor.ReactError.{ReactError}
 use Rattle.react_core.specs.declared.reactor.ReactError.TheVariants.{Poller, OutOfMemory, Exhausted}
 use Rattle.react_core.specs.Core.{Core, ReactorState}
 use Rattle.react_core.specs.Reports.{Arming, Try, LackSo, armed_told, armings_by_all, taken_by_all, tries_told, try_answer, worse, worst}
+use Rattle.react_core.specs.laws.Tries.{tries-ok}
 use Rattle.react_core.specs.Round.{Ran, Course, CourseSteps, Unread, Read, Pause, Unwaited, Waited, Reread, Unreread, is_quiet, pause_reports, pause_told, reports_of}
 use Rattle.react_core.specs.Step.{WokeAll, begun_round, finish_wakes, finished_round}
 use Rattle.react_core.specs.Told.{told, modify_told}
@@ -25,34 +26,6 @@ course-core old new first pause tasks steps = steps.finishes.core ∙ ap (λ cor
 -- the tasks that it wakes
 course-tasks : (old new : Core) (first : ℕ) (pause : Pause) (tasks : List ℕ) → CourseSteps old (Read first pause) tasks new → tasks ≡ taken_by_all (old.ticker + 1) old.sources (pause_reports pause)
 course-tasks old new first pause tasks steps = steps.finishes.wakes ∙ ap (λ core. finish_wakes core (pause_reports pause)) steps.begins.core
-
--- ---- armings of which none was refused
-
-worse-both : (a b : Result (Unit {0}) ReactError) → worse a b ≡ Ok tt → (a ≡ Ok tt) × (b ≡ Ok tt)
-worse-both (Ok u) b is = (refl, is)
-worse-both (Err Poller) b is = absurd (cc)
-worse-both (Err OutOfMemory) (Ok u) is = absurd (cc)
-worse-both (Err OutOfMemory) (Err Poller) is = absurd (cc)
-worse-both (Err OutOfMemory) (Err OutOfMemory) is = absurd (cc)
-worse-both (Err OutOfMemory) (Err (Exhausted c v)) is = absurd (cc)
-worse-both (Err (Exhausted c v)) (Ok u) is = absurd (cc)
-worse-both (Err (Exhausted c v)) (Err Poller) is = absurd (cc)
-worse-both (Err (Exhausted c v)) (Err OutOfMemory) is = absurd (cc)
-worse-both (Err (Exhausted c v)) (Err (Exhausted k w)) is = absurd (cc)
-
-told-ok : (a : Arming) (f : Result (Unit {0}) Fault) → try_answer f ≡ Ok tt → modify_told a.wire a.key a.read a.write f ≡ armed_told a ∷ []
-told-ok a (Ok u) is = refl
-told-ok a (Err fault.Failed) is = absurd (cc)
-told-ok a (Err fault.OutOfMemory) is = absurd (cc)
-
-tries_told-ok : (tries : List Try) → worst tries ≡ Ok tt → tries_told tries ≡ map armed_told (map (λ t. t.0) tries)
-tries_told-ok [] is = refl
-tries_told-ok (t ∷ tries) is =
-    let both = worse-both (try_answer t.1) (worst tries) is in
-    ap (λ es. modify_told t.0.wire t.0.key t.0.read t.0.write t.1 ++ es) (tries_told-ok tries both.1) ∙ ap (λ es. es ++ map armed_told (map (λ u. u.0) tries)) (told-ok t.0 t.1 both.0)
-
-tries-ok : (armings : List Arming) (tries : List Try) → map (λ t. t.0) tries ≡ armings → worst tries ≡ Ok tt → tries_told tries ≡ map armed_told armings
-tries-ok armings tries each is = tries_told-ok tries is ∙ ap (map armed_told) each
 
 -- ---- a round of which nothing was refused
 

@@ -1,6 +1,4 @@
 mod LineLemmas
-mod TextLemmas
 mod AskLemmas
 mod SaidLemmas
-mod UserLemmas
 mod ArgLemmas

@@ -1,5 +1,5 @@
 use Rattle.std.proofs.Common.{◌-◌, length, arith}
-use Rattle.bus_opening.proofs.TextLemmas.{line_none, line_some}
+use Rattle.bus_opening.specs.laws.Texts.{line_none, line_some}
 use Rattle.bus_opening.proofs.line.line_text.Goals as goal
 
 pub returns-in-Ok : goal.returns-in-Ok

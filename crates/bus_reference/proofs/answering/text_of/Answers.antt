@@ -1,4 +1,4 @@
-use Rattle.bus_reference.proofs.TextLemmas.{text_some, text_none}
+use Rattle.bus_opening.specs.laws.Texts.{text_some, text_none}
 use Rattle.bus_reference.proofs.answering.text_of.Goals as goal
 
 pub returns-in-Ok : goal.returns-in-Ok

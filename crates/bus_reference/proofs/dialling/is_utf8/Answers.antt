@@ -1,4 +1,4 @@
-use Rattle.bus_reference.proofs.TextLemmas.{text_is, text_not}
+use Rattle.bus_opening.specs.laws.Texts.{text_is, text_not}
 use Rattle.bus_reference.proofs.dialling.is_utf8.Goals as goal
 
 pub returns-in-Ok : goal.returns-in-Ok

@@ -1,6 +1,6 @@
 use Rattle.std.proofs.Common.{ap, ◌∙◌}
 use Rattle.bus_opening.specs.Server.{user_of}
-use Rattle.bus_reference.proofs.UserLemmas.{parsed, no_user}
+use Rattle.bus_opening.specs.laws.Users.{parsed, no_user}
 use Rattle.bus_reference.proofs.serving.user_of.Goals as goal
 
 pub returns-in_default : goal.returns-in_default
