@@ -1,18 +1,12 @@
-//! Worked tables of the other crates, as tests over public calls alone.
+//! Worked tables of the reactor and of the conversation, as tests over public calls alone.
 //!
-//! Each table checks what is defined against the formats themselves, and that calls succeed. They stand here so that the
-//! crates below are proved once. Nothing stands on this crate.
+//! Each table checks what is defined against the formats themselves, and that calls succeed. They stand here so that
+//! the crates below are proved once. Nothing stands on this crate.
 #![tactic(auto)]
 
-#[cfg(test)]
-mod address;
-#[cfg(test)]
-mod names;
 #[cfg(test)]
 mod opening;
 #[cfg(test)]
 mod reactor;
-#[cfg(test)]
-mod signature;
 #[cfg(test)]
 mod support;
