@@ -11,6 +11,8 @@ mod names;
 #[cfg(test)]
 mod opening;
 #[cfg(test)]
+mod polled;
+#[cfg(test)]
 mod reactor;
 #[cfg(test)]
 mod signature;

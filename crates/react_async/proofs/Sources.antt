@@ -11,7 +11,8 @@ use Rattle.react_core.specs.Places.{Direction, Source}
 use Rattle.react_core.specs.Core.{Core, HasSource}
 use Rattle.react_core.specs.Sources.{source_of, side, with_side, some_task}
 use Rattle.react_core.specs.Futures.{direction_of}
-use Rattle.react_core.specs.Readiness.{Outcome, Fires, Stays, Begins, fresh, fresh_at, fresh_of, waiting_outcome, direction_outcome, source_outcome, poll_outcome, poll_answer, stored_task, after_source_poll, after_poll}
+use Rattle.react_core.specs.Readiness.{Outcome, Fires, Stays, Begins, fresh, fresh_at, fresh_of, waiting_outcome, direction_outcome, source_outcome, poll_outcome}
+use Rattle.react_core.specs.Readiness.{poll_answer, stored_task, after_source_poll, after_poll}
 use Rattle.react_async.specs.Polls.{IsStored}
 
 at-with : {T : Type 0} (xs : List (ℕ × T)) (key : ℕ) (old new : T) → at_key xs key ≡ Some old → at_key (with_at xs key new) key ≡ Some new

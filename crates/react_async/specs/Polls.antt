@@ -82,7 +82,8 @@ module _ {A W : Type 0} (woke : W → ℕ → W → Type 0) (a : Asking A) where
   Ends old new result Waits = record {
     unready : fresh old.core a.key a.dir ≡ false;
     answers : result ≡ Ok Pending;
-    gained : new.events ≡ told old.events (a.tells (Ok a.not_ready) ++ poll_told old.core a.key a.dir a.task (Ok Pending));
+    gained : new.events ≡
+        told old.events (a.tells (Ok a.not_ready) ++ poll_told old.core a.key a.dir a.task (Ok Pending));
     step : Step old.core (PolledPoll a.key a.dir a.task) (Polled Pending)
         (woken_by (poll_outcome old.core a.key a.dir a.task)) new.core;
     wakes : WokeAll woke old.wakes (woken_by (poll_outcome old.core a.key a.dir a.task)) new.wakes;
@@ -90,7 +91,8 @@ module _ {A W : Type 0} (woke : W → ℕ → W → Type 0) (a : Asking A) where
   Ends old new result (Refused e) = record {
     arms : IsTrue (arms (poll_outcome old.core a.key a.dir a.task));
     answers : result ≡ Err e;
-    gained : new.events ≡ told old.events (a.tells (Ok a.not_ready) ++ poll_told old.core a.key a.dir a.task (Err e));
+    gained : new.events ≡
+        told old.events (a.tells (Ok a.not_ready) ++ poll_told old.core a.key a.dir a.task (Err e));
     core : new.core ≡ old.core;
     wakes : new.wakes ≡ old.wakes;
   }
@@ -136,7 +138,7 @@ module _ {A : Type 0} where
   OnPollLack (Err OutOfMemory) P = P
   OnPollLack (Err (Exhausted counter value)) P = ⊥
 
--- the core once the readiness of the key's direction was taken, where it was ready
+-- the core, where a readiness of the key's direction that there was is used up
 abbrev pub without_readiness : Core → ℕ → Dir → ℕ → Core
 without_readiness core key dir task = if fresh core key dir then after_poll core key dir task else core
 
