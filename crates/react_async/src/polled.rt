@@ -83,9 +83,9 @@ fn read_or_wait<O: Wire + Registrar, W: Wakes>(
 ///
 /// The wire is asked first. Only where it isn't ready the source's readiness is polled, and only where that is ready
 /// the wire is asked once more. Ready: what the wire answered last, which never is that it isn't ready; its fault is
-/// handed on. Pending: neither the wire is ready nor the source, and the task waits for the source. Where the wire isn't
-/// ready although its source was, that readiness is used up, so the source is polled again, for the task to wait: it is
-/// pending then.
+/// handed on. Pending: neither the wire is ready nor the source, and the task waits for the source. Where the wire
+/// isn't ready although its source was, that readiness is used up, so the source is polled again, for the task to wait:
+/// it is pending then.
 ///
 /// Poller: the poller refused to report the source. OutOfMemory: there was no memory for that report. The task doesn't
 /// wait then, and the reactor stays as it was after every `Err`, but that a readiness that was used up stays so.
