@@ -7,6 +7,8 @@
 #[cfg(test)]
 mod opening;
 #[cfg(test)]
+mod polled;
+#[cfg(test)]
 mod reactor;
 #[cfg(test)]
 mod support;
