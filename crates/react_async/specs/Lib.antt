@@ -1,1 +1,3 @@
 pub mod Registered
+pub mod Waits
+pub mod Operation

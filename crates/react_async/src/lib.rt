@@ -2,3 +2,5 @@
 #![tactic(auto)]
 
 pub mod async_io;
+pub mod operation;
+pub mod readiness;
