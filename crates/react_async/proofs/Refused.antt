@@ -2,7 +2,6 @@
 use Rattle.std.proofs.Common.{◌≡◌, Result, Ok, Err, refl}
 use Rattle.std.specs.Result.{IsErr}
 use Rattle.futures.specs.declared.task.Poll.{Poll}
-use Rattle.react_async.specs.declared.operation.IoAnswer.{IoAnswer}
 use Rattle.react_async.specs.declared.operation.IoAnswer.TheVariants.{NotReady}
 use Rattle.react_async.specs.Operation.{io_answer}
 

@@ -27,8 +27,8 @@ pub enum IoAnswer<X> {
     NotReady,
 }
 
-/// An operation that reads: it is called until it is done, each time that its source may be ready. Dropping it leaves its
-/// future's place taken.
+/// An operation that reads: it is called until it is done, each time that its source may be ready. Dropping it leaves
+/// the place of its future taken.
 #[derive(Drop)]
 pub struct ReadWith<'a, T, F> {
     source: &'a Async<T>,
@@ -48,8 +48,8 @@ impl<'a, T, F> Model for ReadWith<'a, T, F> {
     } };
 }
 
-/// An operation that writes: it is called until it is done, each time that its source may be ready. Dropping it leaves its
-/// future's place taken.
+/// An operation that writes: it is called until it is done, each time that its source may be ready. Dropping it leaves
+/// the place of its future taken.
 #[derive(Drop)]
 pub struct WriteWith<'a, T, F> {
     source: &'a Async<T>,
@@ -149,8 +149,8 @@ impl<'a, T, F> ReadWith<'a, T, F> {
     /// After `NotReady` a future of this operation's own is polled for the first time, for this task, and the answer is
     /// Pending; the next poll ends that future and calls the operation again, whether the source is ready or not.
     ///
-    /// Poller: the poller refused this first poll. After every `Err` the operation has answered `NotReady`, no future of
-    /// its own is left, and the reactor is as its end leaves it.
+    /// Poller: the poller refused this first poll. After every `Err` the operation has answered `NotReady`, no future
+    /// of its own is left, and the reactor is as its end leaves it.
     pub fn poll<X, R: Registrar>(
         &mut self,
         alloc: Global,
@@ -165,6 +165,7 @@ impl<'a, T, F> ReadWith<'a, T, F> {
         ensures called { CalledAt F.FnMut self.old.op self.old.io (io_answer result) self.new.op }
         ensures callable { F.IsAlwaysCallable self.new.op }
         ensures io { self.new.io ≡ self.old.io }
+        ensures key { self.new.future.key ≡ self.old.future.key }
         ensures ready { OnReady result (self.new.future ≡ waits self.old.future.key None ×
             reactor.new ≡ record reactor.old { core = given_up reactor.old.core Read self.old.future }) }
         ensures pending { OnPending result (FirstPoll (given_up reactor.old.core Read self.old.future) Read
@@ -210,8 +211,8 @@ impl<'a, T, F: Drop> ReadWith<'a, T, F> {
 impl<'a, T, F> WriteWith<'a, T, F> {
     /// Calls the operation once, with the handle, as `ReadWith::poll` does.
     ///
-    /// Poller: the poller refused the first poll of the future. After every `Err` the operation has answered `NotReady`,
-    /// no future of its own is left, and the reactor is as its end leaves it.
+    /// Poller: the poller refused the first poll of the future. After every `Err` the operation has answered
+    /// `NotReady`, no future of its own is left, and the reactor is as its end leaves it.
     pub fn poll<X, R: Registrar>(
         &mut self,
         alloc: Global,
@@ -226,6 +227,7 @@ impl<'a, T, F> WriteWith<'a, T, F> {
         ensures called { CalledAt F.FnMut self.old.op self.old.io (io_answer result) self.new.op }
         ensures callable { F.IsAlwaysCallable self.new.op }
         ensures io { self.new.io ≡ self.old.io }
+        ensures key { self.new.future.key ≡ self.old.future.key }
         ensures ready { OnReady result (self.new.future ≡ waits self.old.future.key None ×
             reactor.new ≡ record reactor.old { core = given_up reactor.old.core Write self.old.future }) }
         ensures pending { OnPending result (FirstPoll (given_up reactor.old.core Write self.old.future) Write

@@ -1,5 +1,6 @@
 //! The futures that wait until a source is ready.
 ghost use Rattle.std.specs.Prelude.{◌≡◌, false, None, Some, IsSome, [], IfOk, OnOk, OnErr};
+ghost use Rattle.futures.specs.declared.task.Poll.TheVariants.{Pending};
 ghost use Rattle.react_core.specs.declared.reactor.Dir.TheVariants.{Read, Write};
 ghost use Rattle.react_core.specs.Causes.{ReactCounted, OnReactLack};
 ghost use Rattle.react_core.specs.Core.{HasSource};
@@ -36,6 +37,8 @@ pub(crate) fn poll_kept<R: Registrar>(
     ensures place { OnOk result (KeepsPlace reactor.old.core dir (waits key place.old) (waits key place.new)) }
     ensures ready { IfOk result (λ answer.
         is_ready answer ≡ future_fresh reactor.old.core key dir (place_of (waits key place.new))) }
+    ensures first { held reactor.old.core dir (waits key place.old) ≡ None →
+        IfOk result (λ answer. answer ≡ Pending) }
     ensures steps { CoreSteps reactor.old.core reactor.new.core }
     ensures step { IfOk result (λ answer. Step reactor.old.core
         (FuturePoll key dir (place_of (waits key place.new)) task) (Polled answer) [] reactor.new.core) }
@@ -60,6 +63,7 @@ pub(crate) fn cancel_kept(reactor: &mut Reactor, key: usize, dir: Dir, place: Op
     ensures core { reactor.new ≡ record reactor.old { core = given_up reactor.old.core dir (waits key place) } }
     ensures absent { entry reactor.old.core dir (waits key place) ≡ None → reactor.new ≡ reactor.old }
     ensures gone { entry reactor.new.core dir (waits key place) ≡ None }
+    ensures stays { HasSource reactor.old.core key → HasSource reactor.new.core key }
     ensures steps { CoreSteps reactor.old.core reactor.new.core }
     ensures step { Ends reactor.old.core dir (waits key place) reactor.new.core }
 {
@@ -191,11 +195,11 @@ impl<T> Async<T> {
 impl<'a, T> Readable<'a, T> {
     /// Asks whether the source is ready to be read, for a task that is to be woken otherwise.
     ///
-    /// The first poll takes a free place at the source for the future, and is Pending. A later one is Ready exactly where
-    /// a round that was begun after the first has reported the direction, and stays so; while it is Pending its task is
-    /// stored in place of the last poll's, which nobody wakes. Where no task waited for the direction, the poller is asked
-    /// to report all directions that a task waits for. Where the source doesn't hold the future's place, as after a
-    /// removal of the source, this is a first poll again.
+    /// The first poll takes a free place at the source for the future, and is Pending. A later one is Ready exactly
+    /// where a round that was begun after the first has reported the direction, and stays so; while it is Pending its
+    /// task is stored in place of the last poll's, which nobody wakes. Where no task waited for the direction, the
+    /// poller is asked to report all directions that a task waits for. Where the source doesn't hold the future's
+    /// place, as after a removal of the source, this is a first poll again.
     ///
     /// Poller: the poller refused. The future and the reactor stay as they were after every `Err`.
     pub fn poll<R: Registrar>(
@@ -206,9 +210,11 @@ impl<'a, T> Readable<'a, T> {
         task: u64,
     ) -> Result<Poll<()>, ReactError>
         requires { HasSource reactor.old.core self.old.key }
+        ensures key { self.new.key ≡ self.old.key }
         ensures place { OnOk result (KeepsPlace reactor.old.core Read self.old self.new) }
         ensures ready { IfOk result (λ answer.
             is_ready answer ≡ future_fresh reactor.old.core self.old.key Read (place_of self.new)) }
+        ensures first { held reactor.old.core Read self.old ≡ None → IfOk result (λ answer. answer ≡ Pending) }
         ensures steps { CoreSteps reactor.old.core reactor.new.core }
         ensures step { IfOk result (λ answer. Step reactor.old.core
             (FuturePoll self.old.key Read (place_of self.new) task) (Polled answer) [] reactor.new.core) }
@@ -261,9 +267,11 @@ impl<'a, T> Writable<'a, T> {
         task: u64,
     ) -> Result<Poll<()>, ReactError>
         requires { HasSource reactor.old.core self.old.key }
+        ensures key { self.new.key ≡ self.old.key }
         ensures place { OnOk result (KeepsPlace reactor.old.core Write self.old self.new) }
         ensures ready { IfOk result (λ answer.
             is_ready answer ≡ future_fresh reactor.old.core self.old.key Write (place_of self.new)) }
+        ensures first { held reactor.old.core Write self.old ≡ None → IfOk result (λ answer. answer ≡ Pending) }
         ensures steps { CoreSteps reactor.old.core reactor.new.core }
         ensures step { IfOk result (λ answer. Step reactor.old.core
             (FuturePoll self.old.key Write (place_of self.new) task) (Polled answer) [] reactor.new.core) }
@@ -314,9 +322,11 @@ impl<T> ReadableOwned<T> {
         task: u64,
     ) -> Result<Poll<()>, ReactError>
         requires { HasSource reactor.old.core self.old.key }
+        ensures key { self.new.key ≡ self.old.key }
         ensures place { OnOk result (KeepsPlace reactor.old.core Read self.old self.new) }
         ensures ready { IfOk result (λ answer.
             is_ready answer ≡ future_fresh reactor.old.core self.old.key Read (place_of self.new)) }
+        ensures first { held reactor.old.core Read self.old ≡ None → IfOk result (λ answer. answer ≡ Pending) }
         ensures steps { CoreSteps reactor.old.core reactor.new.core }
         ensures step { IfOk result (λ answer. Step reactor.old.core
             (FuturePoll self.old.key Read (place_of self.new) task) (Polled answer) [] reactor.new.core) }
@@ -369,9 +379,11 @@ impl<T> WritableOwned<T> {
         task: u64,
     ) -> Result<Poll<()>, ReactError>
         requires { HasSource reactor.old.core self.old.key }
+        ensures key { self.new.key ≡ self.old.key }
         ensures place { OnOk result (KeepsPlace reactor.old.core Write self.old self.new) }
         ensures ready { IfOk result (λ answer.
             is_ready answer ≡ future_fresh reactor.old.core self.old.key Write (place_of self.new)) }
+        ensures first { held reactor.old.core Write self.old ≡ None → IfOk result (λ answer. answer ≡ Pending) }
         ensures steps { CoreSteps reactor.old.core reactor.new.core }
         ensures step { IfOk result (λ answer. Step reactor.old.core
             (FuturePoll self.old.key Write (place_of self.new) task) (Polled answer) [] reactor.new.core) }
