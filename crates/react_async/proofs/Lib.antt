@@ -1,3 +1,5 @@
+mod Waits
+mod Refused
 pub mod Sources
 pub mod Ways
 pub mod Calls

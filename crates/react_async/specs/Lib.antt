@@ -1,2 +1,5 @@
+pub mod Registered
+pub mod Waits
+pub mod Operation
 pub mod Polls
 pub mod Telling

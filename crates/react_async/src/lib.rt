@@ -1,6 +1,8 @@
-//! What is known of a wire beside a reactor that is handed in: polled reads and writes.
+//! Handles of sources over a reactor that is handed in: their readiness, the futures that wait for it, and polled reads
+//! and writes.
 #![tactic(auto)]
 
+pub mod async_io;
+pub mod operation;
 mod polled;
-
-pub use polled::{poll_read, poll_write};
+pub mod readiness;

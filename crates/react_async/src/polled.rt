@@ -1,4 +1,4 @@
-//! Polled reads and writes: the wire is asked, then its source's readiness, then the wire once more.
+//! A wire is asked, then its source's readiness, then the wire once more: what polled reads and writes of a handle do.
 
 ghost use Rattle.std.specs.Prelude.{◌≡◌, false, Ok, IfSome, OnErr, length};
 ghost use Rattle.react_core.specs.declared.outside.Received.TheVariants as received;
@@ -89,7 +89,7 @@ fn read_or_wait<O: Wire + Registrar, W: Wakes>(
 ///
 /// Poller: the poller refused to report the source. OutOfMemory: there was no memory for that report. The task doesn't
 /// wait then, and the reactor stays as it was after every `Err`, but that a readiness that was used up stays so.
-pub fn poll_read<O: Wire + Registrar, W: Wakes>(
+pub(crate) fn poll_read<O: Wire + Registrar, W: Wakes>(
     reactor: &mut Reactor,
     outside: &mut O,
     wakes: &mut W,
@@ -189,7 +189,7 @@ fn write_or_wait<O: Wire + Registrar, W: Wakes>(
 ///
 /// Poller: the poller refused to report the source. OutOfMemory: there was no memory for that report. The task doesn't
 /// wait then, and the reactor stays as it was after every `Err`, but that a readiness that was used up stays so.
-pub fn poll_write<O: Wire + Registrar, W: Wakes>(
+pub(crate) fn poll_write<O: Wire + Registrar, W: Wakes>(
     reactor: &mut Reactor,
     outside: &mut O,
     wakes: &mut W,

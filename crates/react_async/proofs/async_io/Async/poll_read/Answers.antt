@@ -1,0 +1,8 @@
+use Rattle.std.proofs.Common.{rules}
+use Rattle.react_async.proofs.async_io.Async.poll_read.Goals as goal
+
+-- src/async_io.rt
+pub returns-clause-goes : goal.returns-clause-goes
+returns-clause-goes g c =
+    rw (← c.self.view_is)
+    (c.poll_read.ensures.goes)
