@@ -1,4 +1,4 @@
-//! Worked tables of the reactor and of the conversation, as tests over public calls alone.
+//! Worked tables of the conversation, as tests over public calls alone.
 //!
 //! Each table checks what is defined against the formats themselves, and that calls succeed. They stand here so that
 //! the crates below are proved once. Nothing stands on this crate.
@@ -6,9 +6,5 @@
 
 #[cfg(test)]
 mod opening;
-#[cfg(test)]
-mod polled;
-#[cfg(test)]
-mod reactor;
 #[cfg(test)]
 mod support;

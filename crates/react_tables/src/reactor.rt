@@ -1,5 +1,7 @@
 //! The reactor over an outside that answers as a test wants it.
 
+mod handles;
+
 use futures::task::Poll;
 use react_core::outside::{
     Clock, Fault, Notifier, OutOfMemory, Poller, Registrar, Report, Tells, Waited, Waiter, Wakes,

@@ -1,7 +1,7 @@
 //! Polled reads and writes over an outside that answers as a test wants it.
 
 use futures::task::Poll;
-use react_async::{poll_read, poll_write};
+use react_async::async_io::Async;
 use react_core::outside::{
     Fault, OutOfMemory, Received, Registrar, Report, Sent, Tells, Wakes, Wire,
 };
@@ -134,14 +134,14 @@ impl Wakes for Woken {
     }
 }
 
-/// A reactor with one source, of wire 3, its outside and the tasks that it woke.
+/// A reactor with the handle of wire 3, its outside and the tasks that it woke.
 #[derive(Drop)]
 struct Bench {
     alloc: Global,
     reactor: Reactor,
     outside: Piped,
     woken: Woken,
-    key: usize,
+    handle: Async<()>,
     /// What was read.
     into: [u8; 2],
 }
@@ -161,49 +161,37 @@ impl Bench {
             armed: (false, false),
             armings: 0,
         };
-        let key = reactor.insert_io(alloc, &mut outside, 3)?;
+        let made = Async::new(alloc, &mut reactor, &mut outside, 3, ());
+        let handle = made.map_err(|(_, refusal)| refusal)?;
         Ok(Bench {
             alloc,
             reactor,
             outside,
             woken: Woken { count: 0, last: 0 },
-            key,
+            handle,
             into: [0, 0],
         })
     }
 
     /// A polled read, where the wire says this to its first and to its second call.
     fn read(&mut self, first: Says, second: Says, task: u64) -> Read {
-        if !self.reactor.contains(self.key) {
+        if !self.reactor.contains(self.handle.key()) {
             return None;
         }
         self.outside.says = (first, second);
-        Some(poll_read(
-            &mut self.reactor,
-            &mut self.outside,
-            &mut self.woken,
-            self.key,
-            3,
-            &mut self.into,
-            task,
-        ))
+        let (reactor, outside, woken) = (&mut self.reactor, &mut self.outside, &mut self.woken);
+        let into = &mut self.into;
+        Some(self.handle.poll_read(reactor, outside, woken, into, task))
     }
 
     /// A polled write of two bytes, where the wire says this to its first and to its second call.
     fn write(&mut self, first: Says, second: Says, task: u64) -> Written {
-        if !self.reactor.contains(self.key) {
+        if !self.reactor.contains(self.handle.key()) {
             return None;
         }
         self.outside.says = (first, second);
-        Some(poll_write(
-            &mut self.reactor,
-            &mut self.outside,
-            &mut self.woken,
-            self.key,
-            3,
-            b"xy",
-            task,
-        ))
+        let (reactor, outside, woken) = (&mut self.reactor, &mut self.outside, &mut self.woken);
+        Some(self.handle.poll_write(reactor, outside, woken, b"xy", task))
     }
 
     /// A round that reports both directions of the source. Whether it went well.
@@ -212,7 +200,7 @@ impl Bench {
             return false;
         }
         let reports = [Report {
-            key: self.key,
+            key: self.handle.key(),
             read: true,
             write: true,
         }];
