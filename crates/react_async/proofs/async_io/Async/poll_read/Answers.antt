@@ -1,4 +1,3 @@
-use Rattle.std.proofs.Common.{rules}
 use Rattle.react_async.proofs.async_io.Async.poll_read.Goals as goal
 
 -- src/async_io.rt
