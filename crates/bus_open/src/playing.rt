@@ -12,7 +12,8 @@ ghost use Rattle.bus_session.specs.declared.ended.Ended.{Ended};
 ghost use Rattle.bus_session.specs.Sessions.{is_built};
 ghost use Rattle.bus_printed.specs.Names.{Names};
 ghost use Rattle.bus_open.specs.Streams.{GainsFront, GainsOrFails, LosesFront};
-ghost use Rattle.bus_open.specs.Run.{ComesTo, Plays, Reads, PollerFails, ScriptFails, RefusesScript, RunsOut, ScriptRunsOut};
+ghost use Rattle.bus_open.specs.Run.{ComesTo, Plays, Reads, PollerFails, ScriptFails, RefusesScript, RunsOut};
+ghost use Rattle.bus_open.specs.Run.{ScriptRunsOut};
 ghost use Rattle.bus_open.specs.Run.{all_open, is_open, status_of};
 
 use crate::refusal::refuse;

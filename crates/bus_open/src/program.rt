@@ -1,6 +1,7 @@
 //! The program: words and what they ask to be read in, results and a status out.
 
-ghost use Rattle.std.specs.Prelude.{◌≡◌, ◌≢◌, ◌≤◌, ◌⊎◌, ℕ, Bool, List, length, true, false, map, string_bytes, Some, Ok, Err};
+ghost use Rattle.std.specs.Prelude.{◌≡◌, ◌≢◌, ◌≤◌, ◌⊎◌, ℕ, Bool, List, length, true, false, map, string_bytes};
+ghost use Rattle.std.specs.Prelude.{Some, Ok, Err};
 ghost use Rattle.std.specs.Io.KnownBytes.{Appends, Keeps};
 ghost use Rattle.react_core.specs.Told.{Rose};
 ghost use Rattle.bus_script.specs.Script.{Script, Refused, script};

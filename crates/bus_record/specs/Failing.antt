@@ -76,7 +76,8 @@ pub record FailsInVisit (sessions : List Session) (rounds : ℕ) (ample : Bool) 
   pub own : List Event
   pub run : Run sessions rounds past (wire ∷ wires)
   pub at : slice_get sessions wire ≡ Some session
-  pub goes : is_some (goes_on session wire (here wire past) (starts session wire past) (front ++ mended call ∷ [])) ≡ true
+  pub goes : is_some (goes_on session wire (here wire past) (starts session wire past)
+      (front ++ mended call ∷ [])) ≡ true
   pub failed : is_failed call ≡ true
   pub removed : Made ample (removal wire (key_left (key_through (key_of wire past) front) call)) own
   pub whole : cut ≡ front ++ call ∷ own

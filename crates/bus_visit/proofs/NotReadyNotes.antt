@@ -15,7 +15,9 @@ use Rattle.react_core.specs.Told.{told}
 use Rattle.react_core.specs.Core.{Core, HasSource}
 use Rattle.react_core.specs.Sources as sources_of
 use Rattle.react_core.specs.Sources.{source_of, side, with_side}
-use Rattle.react_core.specs.Readiness.{Outcome, direction_outcome, source_outcome, poll_outcome, poll_answer, poll_told, woken_by, arms, after_source_poll, after_poll, armed, is_ready, is_read, is_write}
+use Rattle.react_core.specs.Readiness.{Outcome, direction_outcome, source_outcome, poll_outcome, poll_answer}
+use Rattle.react_core.specs.Readiness.{poll_told, woken_by, arms, after_source_poll, after_poll, armed}
+use Rattle.react_core.specs.Readiness.{is_ready, is_read, is_write}
 use Rattle.react_core.specs.Step.{Step, PolledPoll, Polled}
 use Rattle.bus_visit.specs.Counts.{after_begun}
 use Rattle.bus_visit.specs.Registry.{Side, Idle, Waits, Reported, waits, side_held, Held, held_at, arming, noted, stopped_held, Apart, Distinct}

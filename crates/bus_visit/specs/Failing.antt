@@ -88,8 +88,8 @@ pub record RegisteredVisitFails (wire key : ℕ) (ample : Bool) (before after : 
   pub gained : after ≡ told before (calls ++ call ∷ own)
 
 -- a wire was opened and registered, and a call of the poller failed in the conversation's visit
-pub record RegisteredFails (s : Session) (wire : ℕ) (opened : Opened) (ample : Bool) (before after : Option (List Event))
-    (old : Core) : Type 0 where
+pub record RegisteredFails (s : Session) (wire : ℕ) (opened : Opened) (ample : Bool)
+    (before after : Option (List Event)) (old : Core) : Type 0 where
   pub talk : List (List ℕ) → Said
   pub client : Opening
   pub key : ℕ

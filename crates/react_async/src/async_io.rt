@@ -267,14 +267,15 @@ impl<T> Async<T> {
 
     /// Reads from the wire, for a task that is to be woken otherwise when the source can be read.
     ///
-    /// The wire is asked first. Only where it isn't ready the source's readiness is polled, and only where that is ready
-    /// the wire is asked once more. Ready: what the wire answered last, which never is that it isn't ready; its fault is
-    /// handed on. Pending: neither the wire is ready nor the source, and the task waits for the source. Where the wire
-    /// isn't ready although its source was, that readiness is used up, so the source is polled again, for the task to wait:
-    /// it is pending then.
+    /// The wire is asked first. Only where it isn't ready the source's readiness is polled, and only where that is
+    /// ready the wire is asked once more. Ready: what the wire answered last, which never is that it isn't ready; its
+    /// fault is handed on. Pending: neither the wire is ready nor the source, and the task waits for the source. Where
+    /// the wire isn't ready although its source was, that readiness is used up, so the source is polled again, for the
+    /// task to wait: it is pending then.
     ///
-    /// Poller: the poller refused to report the source. OutOfMemory: there was no memory for that report. The task doesn't
-    /// wait then, and the reactor stays as it was after every `Err`, but that a readiness that was used up stays so.
+    /// Poller: the poller refused to report the source. OutOfMemory: there was no memory for that report. The task
+    /// doesn't wait then, and the reactor stays as it was after every `Err`, but that a readiness that was used up stays
+    /// so.
     pub fn poll_read<O: Wire + Registrar, W: Wakes>(
         &self,
         reactor: &mut Reactor,
@@ -286,9 +287,11 @@ impl<T> Async<T> {
         requires { HasSource reactor.old.core self.now.key }
         ensures goes { (course : Course Received) × Goes W.woke (reading self.now.key self.now.wire task into.new)
             (record { events = (O.outer outside.old).events; core = reactor.old.core; wakes = wakes.old })
-            (record { events = (O.outer outside.new).events; core = reactor.new.core; wakes = wakes.new }) result course }
+            (record { events = (O.outer outside.new).events; core = reactor.new.core; wakes = wakes.new }) result
+            course }
         ensures twice { AsksAtMostTwice (fresh reactor.old.core self.now.key dir.Read)
-            (recv_told self.now.wire into.new (Ok received.NotReady)) (O.outer outside.old).events (O.outer outside.new).events }
+            (recv_told self.now.wire into.new (Ok received.NotReady)) (O.outer outside.old).events
+            (O.outer outside.new).events }
         ensures ready { IfReady result (IsRead (length into.old)) }
         ensures room { length into.new ≡ length into.old }
         ensures stored { OnPending result (IsStored reactor.new.core self.now.key dir.Read task) }
@@ -309,11 +312,12 @@ impl<T> Async<T> {
 
     /// Offers the wire a piece, for a task that is to be woken otherwise when the source can be written.
     ///
-    /// It goes as `poll_read` does, with the other direction. Ready: what the wire answered last, which never is that it
-    /// isn't ready; its fault is handed on. Pending: neither the wire is ready nor the source, and the task waits.
+    /// It goes as `poll_read` does, with the other direction. Ready: what the wire answered last, which never is that
+    /// it isn't ready; its fault is handed on. Pending: neither the wire is ready nor the source, and the task waits.
     ///
-    /// Poller: the poller refused to report the source. OutOfMemory: there was no memory for that report. The task doesn't
-    /// wait then, and the reactor stays as it was after every `Err`, but that a readiness that was used up stays so.
+    /// Poller: the poller refused to report the source. OutOfMemory: there was no memory for that report. The task
+    /// doesn't wait then, and the reactor stays as it was after every `Err`, but that a readiness that was used up stays
+    /// so.
     pub fn poll_write<O: Wire + Registrar, W: Wakes>(
         &self,
         reactor: &mut Reactor,
@@ -325,9 +329,11 @@ impl<T> Async<T> {
         requires { HasSource reactor.old.core self.now.key }
         ensures goes { (course : Course Sent) × Goes W.woke (writing self.now.key self.now.wire task bytes.now)
             (record { events = (O.outer outside.old).events; core = reactor.old.core; wakes = wakes.old })
-            (record { events = (O.outer outside.new).events; core = reactor.new.core; wakes = wakes.new }) result course }
+            (record { events = (O.outer outside.new).events; core = reactor.new.core; wakes = wakes.new }) result
+            course }
         ensures twice { AsksAtMostTwice (fresh reactor.old.core self.now.key dir.Write)
-            (send_told self.now.wire bytes.now (Ok sent.NotReady)) (O.outer outside.old).events (O.outer outside.new).events }
+            (send_told self.now.wire bytes.now (Ok sent.NotReady)) (O.outer outside.old).events
+            (O.outer outside.new).events }
         ensures ready { IfReady result (IsWritten (length bytes.now)) }
         ensures stored { OnPending result (IsStored reactor.new.core self.now.key dir.Write task) }
         ensures steps { CoreSteps reactor.old.core reactor.new.core }

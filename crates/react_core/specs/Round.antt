@@ -120,8 +120,8 @@ then_answer (Err e) second = Err e
 -- a round of this course, in which the armings after its reports were tried so: a wait that was refused or failed is
 -- finished with no reports
 pub record Ran {W : Type 0} (woke : W → ℕ → W → Type 0) (timeout : Option ℕ) (ample : Bool)
-    (before after : Option (List Event)) (moment now : ℕ) (old new : ReactorState) (wakes wakes' : W) (answer : Result (Unit {0}) ReactError)
-    (course : Course) (tries : List Try) : Type 0 where
+    (before after : Option (List Event)) (moment now : ℕ) (old new : ReactorState) (wakes wakes' : W)
+    (answer : Result (Unit {0}) ReactError) (course : Course) (tries : List Try) : Type 0 where
   pub form : IsCourse timeout course
   -- a wait gives no more reports than the reactor has room for
   pub within : length (course_reports course) ≤ old.events

@@ -550,8 +550,8 @@ impl Reactor {
         ensures steps { CoreSteps self.old.core self.new.core }
         ensures ran { UnlessExhausted result ((course : Course) × (tries : List Try) ×
             Ran W.woke timeout (O.outer outside.old).ample (O.outer outside.old).events (O.outer outside.new).events
-            (O.outer outside.old).moment (O.outer outside.new).moment self.old self.new wakes.old wakes.new result course
-            tries) }
+            (O.outer outside.old).moment (O.outer outside.new).moment self.old self.new wakes.old wakes.new result
+            course tries) }
         ensures closed { self.new.core.hands ≡ None }
         ensures reports { self.new.events ≡ self.old.events }
         ensures numbered { NumberedBy result self.old.core.ticker }

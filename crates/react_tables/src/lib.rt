@@ -1,7 +1,7 @@
-//! Worked tables of the reactor, of handles of its sources and of what waits for them, as tests over public calls alone.
+//! Worked tables of the reactor, of handles of its sources and of what waits for them, as tests over public calls.
 //!
-//! They stand apart from the crates below, so that these are proved once, and from `bus_tables`, so that a change of the
-//! conversation proves none of them again. Nothing stands on this crate.
+//! They stand apart from the crates below, so that these are proved once, and from `bus_tables`, so that a change of
+//! the conversation proves none of them again. Nothing stands on this crate.
 #![tactic(auto)]
 
 #[cfg(test)]

@@ -366,8 +366,8 @@ fn a_refused_arming_ends_no_round_early(rt: HostRuntime) -> Result<(), Fail> {
 }
 
 /// A round in which a task waits for reading, and then one whose wait reports it. Gives the first round's answer, how
-/// often the clock was read in it and how many armings there were up to its end; and of both rounds the last one's number
-/// and what was woken.
+/// often the clock was read in it and how many armings there were up to its end; and of both rounds the last one's
+/// number and what was woken.
 fn rounds_after(
     alloc: Global,
     ends: Ends,

@@ -1,5 +1,6 @@
 -- The text of a line, and of bytes.
-use Rattle.std.proofs.Common.{◌≡◌, ℕ, ◌+◌, ◌<◌, Bool, true, false, cond, eqb, List, [], ◌∷◌, length, take, Option, Some, None, refl, sym, ap, ◌∙◌, ◌&&◌, arith}
+use Rattle.std.proofs.Common.{◌≡◌, ℕ, ◌+◌, ◌<◌, Bool, true, false, cond, eqb, List, [], ◌∷◌, length, take, Option}
+use Rattle.std.proofs.Common.{Some, None, refl, sym, ap, ◌∙◌, ◌&&◌, arith}
 use Rattle.std.specs.Prelude.{slice_index}
 use Rattle.std.specs.Str.{is_utf8, IsUtf8}
 use Rattle.std.proofs.lemmas.Str.{IsUtf8-from_is_utf8, is_utf8-from_IsUtf8}
@@ -29,10 +30,13 @@ not_utf8 : (b : Bool) (text : List ℕ) → is_utf8 text ≡ b → (IsUtf8 text 
 not_utf8 true text e n = absurd (n (IsUtf8-from_is_utf8 text e))
 not_utf8 false text e n = refl
 
-pub line_none : (line : List ℕ) (end : ℕ) → length line ≡ end + 2 → (IsUtf8 (take end line) → ⊥) → None ≡ text_of_line line
-line_none line end e n = sym (before_end line end e ∙ no_text _ (is_utf8 (take end line)) (take end line) (not_utf8 _ (take end line) refl n))
+pub line_none : (line : List ℕ) (end : ℕ) → length line ≡ end + 2 → (IsUtf8 (take end line) → ⊥) →
+    None ≡ text_of_line line
+line_none line end e n = sym (before_end line end e
+    ∙ no_text _ (is_utf8 (take end line)) (take end line) (not_utf8 _ (take end line) refl n))
 
-pub line_some : (line text : List ℕ) (end : ℕ) → length line ≡ end + 2 → slice_index line end ≡ 13 → text ≡ take end line → IsUtf8 (take end line) → Some text ≡ text_of_line line
+pub line_some : (line text : List ℕ) (end : ℕ) → length line ≡ end + 2 → slice_index line end ≡ 13 →
+    text ≡ take end line → IsUtf8 (take end line) → Some text ≡ text_of_line line
 line_some line text end e f g u =
     let whole : is_utf8 (take end line) ≡ true = is_utf8-from_IsUtf8 _ u in
     sym (before_end line end e ∙ rw (f, whole) (ap (λ (t : List ℕ). Some t) (sym g)))

@@ -1,5 +1,6 @@
 -- Where a call of the poller failed, before the sources that are left are taken out.
-use Rattle.std.specs.Prelude.{◌≡◌, ◌≢◌, ◌<◌, ◌+◌, ℕ, Bool, true, ◌==◌, if◌then◌else◌, List, [], ◌++◌, length, map, is_some}
+use Rattle.std.specs.Prelude.{◌≡◌, ◌≢◌, ◌<◌, ◌+◌, ℕ, Bool, true, ◌==◌, if◌then◌else◌, List, [], ◌++◌, length}
+use Rattle.std.specs.Prelude.{map, is_some}
 use Rattle.std.specs.Prelude.{Option, None, Result, Ok, Err}
 use Rattle.std.specs.List.{list_any}
 use Rattle.react_core.specs.declared.outside.Event.{Event}

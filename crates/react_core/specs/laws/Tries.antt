@@ -20,7 +20,8 @@ worse-both (Err (Exhausted c v)) (Err Poller) is = absurd (cc)
 worse-both (Err (Exhausted c v)) (Err OutOfMemory) is = absurd (cc)
 worse-both (Err (Exhausted c v)) (Err (Exhausted k w)) is = absurd (cc)
 
-told-ok : (a : Arming) (f : Result (Unit {0}) Fault) → try_answer f ≡ Ok tt → modify_told a.wire a.key a.read a.write f ≡ armed_told a ∷ []
+told-ok : (a : Arming) (f : Result (Unit {0}) Fault) → try_answer f ≡ Ok tt →
+    modify_told a.wire a.key a.read a.write f ≡ armed_told a ∷ []
 told-ok a (Ok u) is = refl
 told-ok a (Err fault.Failed) is = absurd (cc)
 told-ok a (Err fault.OutOfMemory) is = absurd (cc)
@@ -29,7 +30,9 @@ pub tries_told-ok : (tries : List Try) → worst tries ≡ Ok tt → tries_told 
 tries_told-ok [] is = refl
 tries_told-ok (t ∷ tries) is =
     let both = worse-both (try_answer t.1) (worst tries) is in
-    ap (λ es. modify_told t.0.wire t.0.key t.0.read t.0.write t.1 ++ es) (tries_told-ok tries both.1) ∙ ap (λ es. es ++ map armed_told (map (λ u. u.0) tries)) (told-ok t.0 t.1 both.0)
+    ap (λ es. modify_told t.0.wire t.0.key t.0.read t.0.write t.1 ++ es) (tries_told-ok tries both.1)
+    ∙ ap (λ es. es ++ map armed_told (map (λ u. u.0) tries)) (told-ok t.0 t.1 both.0)
 
-pub tries-ok : (armings : List Arming) (tries : List Try) → map (λ t. t.0) tries ≡ armings → worst tries ≡ Ok tt → tries_told tries ≡ map armed_told armings
+pub tries-ok : (armings : List Arming) (tries : List Try) → map (λ t. t.0) tries ≡ armings → worst tries ≡ Ok tt →
+    tries_told tries ≡ map armed_told armings
 tries-ok armings tries each is = tries_told-ok tries is ∙ ap (map armed_told) each
