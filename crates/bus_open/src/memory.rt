@@ -55,6 +55,7 @@ impl MemSource {
 fn copy_front(from: &[u8], into: &mut [u8], most: usize) -> usize
     ensures count { result ≡ min (min (length from.now) most) (length into.new) }
     ensures copied { take result into.new ≡ take result from.now }
+    ensures room { length into.new ≡ length into.old }
 {
     let count = from.len().min(most).min(into.len());
     into[..count].copy_from_slice(&from[..count]);
@@ -73,6 +74,7 @@ impl Source for MemSource {
     fn read(&mut self, into: &mut [u8]) -> Read
         ensures tells { Tells (Some self.old.rest) (Some self.new.rest) }
         ensures bytes { Gives (Some self.old.rest) (Some self.new.rest) into.new result }
+        ensures room { length into.new ≡ length into.old }
         ensures faults { CountsRead self.old.failed self.new.failed result }
         ensures answer { result ≡ read_answer self.old (length into.old) }
         ensures state { self.new ≡ after_read self.old result }

@@ -22,6 +22,7 @@ pub struct WriteFailed;
 
 /// A source of bytes, which may tell what it has left.
 pub trait Source {
+    ghost use Rattle.std.specs.Prelude.{◌≡◌, length};
     ghost use Rattle.bus_open.specs.Streams.{CountsRead, Gives, Tells};
 
     /// The bytes that are left, where the source tells them.
@@ -35,6 +36,7 @@ pub trait Source {
     fn read(&mut self, into: &mut [u8]) -> Read
         ensures tells { Tells (left self.old) (left self.new) }
         ensures bytes { Gives (left self.old) (left self.new) into.new result }
+        ensures room { length into.new ≡ length into.old }
         ensures faults { CountsRead (read_faults self.old) (read_faults self.new) result };
 }
 
