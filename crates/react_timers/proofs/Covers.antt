@@ -1,10 +1,10 @@
 -- The heap beside the live timers: each live timer keeps its entry.
 use Rattle.std.proofs.Common.{◌≡◌, ◌+◌, ℕ, zero, suc, ◌<◌, ◌≤◌, ◌⊎◌, true, false, not, List, [], ◌∷◌, ◌++◌, Option, Some, None, length, get_or, drop, refl, ap, sym, ◌∙◌, inl, inr, arith, add-one, drop-cons}
-use Rattle.std.specs.Prelude.{◌==◌, map, All, Any, Contains, IsPermutation, MatchOption, is_some}
+use Rattle.std.specs.Prelude.{◌==◌, map, All, Any, Contains, IsPermutation, MatchOption, is_some, min}
 use Rattle.std.specs.List.{AllByRecursion}
 use Rattle.std.proofs.lemmas.Bool.{cases_Bool, and_parts, and_from, eq-eqb, eqb-true}
 use Rattle.std.proofs.lemmas.Bool.Decides.{nat_tests}
-use Rattle.std.proofs.lemmas.List.Elements.{All-contains, All-from_recursion}
+use Rattle.std.proofs.lemmas.List.Elements.{All-contains, All-from_recursion, recursion_from_All}
 use Rattle.std.proofs.lemmas.List.Sorted.{Contains-permutation, IsPermutation-sym, length_permutation}
 use Rattle.react_timers.specs.declared.entry.Entry.{Entry}
 use Rattle.react_timers.specs.declared.timer.LiveTimer.{LiveTimer}
@@ -12,7 +12,7 @@ use Rattle.react_timers.specs.declared.timer.TimerOp.{TimerOp}
 use Rattle.react_timers.specs.declared.timer.TimerOp.TheVariants.{Insert, Remove}
 use Rattle.react_timers.specs.Heaped.{is_sooner, Pops}
 use Rattle.react_timers.specs.Held.{Held, Covered, entry_of}
-use Rattle.react_timers.specs.Live.{added, is_at, without, task_at, is_before, IsNearest, applied, applied_all, insertions, insertions_of}
+use Rattle.react_timers.specs.Live.{added, is_at, without, task_at, is_before, IsNearest, earlier, nearest_moment, applied, applied_all, insertions, insertions_of}
 use Rattle.react_timers.proofs.Dues.{each-filter, each-added, rises-filter, rises-added}
 
 contains_head : (e : Entry) (xs : List Entry) → Contains (e ∷ xs) e
@@ -96,6 +96,30 @@ any-at w n (t ∷ ts) h = elim (cases_Bool (is_at w n t)) [
 pub is_nearest : (e : Entry) (items : List Entry) (live : List LiveTimer) → All (λ (x : Entry). is_sooner x e ≡ false) items → Covered items live → is_some (task_at e.when e.number live) ≡ true → IsNearest e.when live
 is_nearest e items live all h is =
     (any-at e.when e.number live is, All-from_recursion (λ (t : LiveTimer). e.when ≤ t.when) live (least e live (each-of_entries (λ (x : Entry). is_sooner x e ≡ false) items live all h)))
+
+-- a moment that a live timer has and none comes before is the least one
+earlier-low : (w v : ℕ) (xs : List LiveTimer) → w ≤ v → AllByRecursion (λ (x : LiveTimer). w ≤ x.when) xs → w ≤ earlier v (nearest_moment xs)
+earlier-low w v [] le h = le
+earlier-low w v (x ∷ xs) le h = omega (arith, le, earlier-low w x.when xs h.0 h.1)
+
+earlier-least : (w : ℕ) (xs : List LiveTimer) → AllByRecursion (λ (x : LiveTimer). w ≤ x.when) xs → earlier w (nearest_moment xs) ≡ w
+earlier-least w [] h = refl
+earlier-least w (x ∷ xs) h = omega (arith, earlier-low w x.when xs h.0 h.1)
+
+nearest_at : (w : ℕ) (xs : List LiveTimer) (k : ℕ) (x : LiveTimer) → k < length xs → get_or xs k x ≡ x → x.when ≡ w → AllByRecursion (λ (y : LiveTimer). w ≤ y.when) xs → nearest_moment xs ≡ Some w
+nearest_at w [] k x lt is when h = absurd (omega arith)
+nearest_at w (y ∷ ys) zero x lt is when h =
+    let same : y.when ≡ w = ap (λ (z : LiveTimer). z.when) is ∙ when in
+    ap (λ v. Some (earlier v (nearest_moment ys))) same ∙ ap Some (earlier-least w ys h.1)
+nearest_at w (y ∷ ys) (suc k) x lt is when h =
+    let rest : nearest_moment ys ≡ Some w = nearest_at w ys k x (omega arith) is when h.1 in
+    let least : min y.when w ≡ w = omega (arith, h.0) in
+    rw rest (ap Some least)
+
+pub nearest_moment-is : (r : Option ℕ) (xs : List LiveTimer) → MatchOption r (xs ≡ []) (λ when. IsNearest when xs) → r ≡ nearest_moment xs
+nearest_moment-is None xs h = rw h refl
+nearest_moment-is (Some w) xs h =
+    sym (nearest_at w xs h.0.0 h.0.1 h.0.2 h.0.3 h.0.4 (recursion_from_All (λ (x : LiveTimer). w ≤ x.when) xs h.1))
 
 pub covered-none : (items : List Entry) (live : List LiveTimer) → items ≡ [] → Covered items live → live ≡ []
 covered-none items [] e h = refl

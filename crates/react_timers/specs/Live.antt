@@ -1,5 +1,5 @@
 -- Live timers, by rising number, and what operations and passes do to them.
-use Rattle.std.specs.Prelude.{◌≡◌, ◌+◌, ◌<◌, ◌≤◌, ℕ, Bool, not, false, ◌&&◌, ◌||◌, nat_lt, nat_le, ◌==◌, if◌then◌else◌, List, [], ◌∷◌, Option, Some, None, filter, map, All, Any}
+use Rattle.std.specs.Prelude.{◌≡◌, ◌+◌, ◌<◌, ◌≤◌, ℕ, Bool, not, false, ◌&&◌, ◌||◌, nat_lt, nat_le, ◌==◌, if◌then◌else◌, List, [], ◌∷◌, Option, Some, None, filter, map, min, All, Any}
 use Rattle.std.specs.List.{AllByRecursion}
 use Rattle.react_timers.specs.declared.timer.LiveTimer.{LiveTimer}
 use Rattle.react_timers.specs.declared.timer.TimerOp.{TimerOp}
@@ -67,7 +67,17 @@ later now = filter (λ x. nat_lt now x.when)
 abbrev pub tasks : List LiveTimer → List ℕ
 tasks = map (λ x. x.task)
 
--- the least moment of a live timer
+-- the earlier of a moment and one that may be there
+abbrev pub earlier : ℕ → Option ℕ → ℕ
+earlier when None = when
+earlier when (Some other) = min when other
+
+-- the least moment of a live timer, none where no timer is live
+abbrev pub nearest_moment : List LiveTimer → Option ℕ
+nearest_moment [] = None
+nearest_moment (x ∷ xs) = Some (earlier x.when (nearest_moment xs))
+
+-- a live timer has the moment, and none an earlier one
 abbrev pub IsNearest : ℕ → List LiveTimer → Type 0
 IsNearest when xs = Any (λ x. x.when ≡ when) xs × All (λ x. when ≤ x.when) xs
 

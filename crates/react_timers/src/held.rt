@@ -2,7 +2,7 @@
 ghost use Rattle.std.specs.Prelude.{◌≡◌, ◌+◌, ◌-◌, ◌*◌, ◌≤◌, ◌<◌, ◌++◌, [], length, MatchOption, vec_len, vec_capacity};
 ghost use Rattle.react_timers.specs.Heaped.{Pops};
 ghost use Rattle.react_timers.specs.Held.{Held};
-ghost use Rattle.react_timers.specs.Live.{applied, applied_all, due, later, tasks, insertions, insertions_of, IsNearest};
+ghost use Rattle.react_timers.specs.Live.{applied, applied_all, due, later, tasks, insertions, insertions_of, nearest_moment, IsNearest};
 
 use crate::entries::Entries;
 use crate::entry::Entry;
@@ -96,6 +96,7 @@ pub(crate) fn take_due(
 /// The least moment of a live timer. Stale entries on the way are dropped.
 pub(crate) fn nearest(entries: &mut Entries, live: &[LiveTimer]) -> Option<u64>
     requires held { Held entries.old.items live.now }
+    ensures moment { result ≡ nearest_moment live.now }
     ensures nearest { MatchOption result (live.now ≡ []) (λ when. IsNearest when live.now) }
     ensures held { Held entries.new.items live.now }
     ensures fewer { length entries.new.items ≤ length entries.old.items }

@@ -1,6 +1,6 @@
 //! The timers and their queue.
 ghost use Rattle.std.specs.Prelude.{◌≡◌, ◌+◌, ◌*◌, ◌≤◌, ◌<◌, ◌++◌, ◌∷◌, ◌↔◌, [], length, nat_lt, IfOk, OnOk, IsSome, MatchOption, option_to_list, vec_len, vec_capacity};
-ghost use Rattle.react_timers.specs.Live.{Rises, applied, applied_all, due, later, tasks, insertions, insertions_of, IsNearest};
+ghost use Rattle.react_timers.specs.Live.{Rises, applied, applied_all, due, later, tasks, insertions, insertions_of, nearest_moment, IsNearest};
 
 use crate::entries::Entries;
 use crate::held;
@@ -73,6 +73,13 @@ impl Timers {
             && self.awaited < self.live.capacity() - self.live.len()
     }
 
+    /// How many operations of the queue are insertions.
+    pub fn awaited(&self) -> usize
+        ensures { result ≡ insertions self.now.queue }
+    {
+        self.awaited
+    }
+
     /// How many entries the heap has, stale ones too.
     pub fn entries(&self) -> usize
         ensures { result ≡ self.now.entries }
@@ -111,6 +118,7 @@ impl Timers {
         requires room { insertions_of op ≤ self.old.room }
         ensures live { self.new.live ≡ self.old.live }
         ensures queue { self.new.queue ≡ self.old.queue ++ op ∷ [] }
+        ensures awaited { insertions self.new.queue ≡ insertions self.old.queue + insertions_of op }
         ensures entries { self.new.entries ≡ self.old.entries }
         ensures room { self.new.room + insertions_of op ≡ self.old.room }
     {
@@ -123,6 +131,7 @@ impl Timers {
     pub fn take_back(&mut self) -> Option<TimerOp>
         ensures live { self.new.live ≡ self.old.live }
         ensures queue { self.old.queue ≡ self.new.queue ++ option_to_list result }
+        ensures awaited { insertions self.new.queue + insertions (option_to_list result) ≡ insertions self.old.queue }
         ensures some { IsSome result ↔ (0 < length self.old.queue) }
         ensures entries { self.new.entries ≡ self.old.entries }
         ensures room { self.new.room ≡ self.old.room + insertions (option_to_list result) }
@@ -176,6 +185,7 @@ impl Timers {
 
     /// The least moment of a live timer. Stale entries on the way are dropped.
     pub fn nearest(&mut self) -> Option<u64>
+        ensures moment { result ≡ nearest_moment self.old.live }
         ensures nearest { MatchOption result (self.old.live ≡ []) (λ when. IsNearest when self.old.live) }
         ensures live { self.new.live ≡ self.old.live }
         ensures queue { self.new.queue ≡ self.old.queue }

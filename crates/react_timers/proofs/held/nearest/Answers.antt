@@ -1,7 +1,7 @@
-use Rattle.std.proofs.Common.{◌≡◌, true, false, is_some, sym, ◌∙◌, arith}
+use Rattle.std.proofs.Common.{◌≡◌, true, false, Some, None, is_some, sym, ◌∙◌, arith}
 use Rattle.std.proofs.lemmas.Grind.{common_steps}
 use Rattle.react_timers.specs.Live.{task_at}
-use Rattle.react_timers.proofs.Covers.{is_nearest, stale-popped, covered-none}
+use Rattle.react_timers.proofs.Covers.{is_nearest, nearest_moment-is, stale-popped, covered-none}
 use Rattle.react_timers.proofs.held.nearest.Goals as goal
 
 pub returns-then-is_some-clause-nearest : goal.returns-then-is_some-clause-nearest
@@ -9,6 +9,12 @@ returns-then-is_some-clause-nearest c =
     let e = c.in-Some.entry in
     let is : is_some (task_at e.when e.number c.args.live.now) ≡ true = grind (arith, common_steps) in
     is_nearest e _ _ c.in-Some.ensures.1 c.loop-entry.invariant.held.covered is
+
+pub returns-then-is_some-clause-moment : goal.returns-then-is_some-clause-moment
+returns-then-is_some-clause-moment c =
+    let e = c.in-Some.entry in
+    let is : is_some (task_at e.when e.number c.args.live.now) ≡ true = grind (arith, common_steps) in
+    nearest_moment-is (Some e.when) _ (is_nearest e _ _ c.in-Some.ensures.1 c.loop-entry.invariant.held.covered is)
 
 pub loop-entry-smaller : goal.loop-entry-smaller
 loop-entry-smaller c =
@@ -30,3 +36,6 @@ loop-entry-preserved c =
 
 pub returns-clause-nearest : goal.returns-clause-nearest
 returns-clause-nearest c = covered-none _ _ c.in_default.ensures c.loop-entry.invariant.held.covered
+
+pub returns-clause-moment : goal.returns-clause-moment
+returns-clause-moment c = nearest_moment-is None _ (covered-none _ _ c.in_default.ensures c.loop-entry.invariant.held.covered)
