@@ -14,7 +14,9 @@ use Rattle.react_core.specs.Reports.{armings_by_all, Try, Tried, tries_told}
 use Rattle.react_core.specs.Round.{Course, Unread, Read, Pause, Unwaited, Waited, Reread, Unreread, Paused, PauseClock}
 use Rattle.react_core.specs.Round.{IsPause, is_quiet, wait_refusal, Ran, UnlessExhausted, RoundCounted, pause_told}
 use Rattle.react_core.specs.Round.{pause_answer, pause_reports, reports_of, then_answer, answer_of}
-use Rattle.react_core.specs.Step.{Step, Begin, Finish, Done, WokeAll, finish_wakes, finished_round}
+use Rattle.react_core.specs.Step.{Step, Begin, Finish, Began, Done, WokeAll, begun_at, finish_wakes, finished_round}
+use Rattle.react_core.specs.Timing.{wait_limit}
+use Rattle.react_core.specs.declared.rounds.Came.{Came}
 use Rattle.react_core.specs.Told.{told, told-told}
 use Rattle.react_core.proofs.Tries.{Tried-nothing}
 
@@ -46,14 +48,14 @@ module _ {W : Type 0} (woke : W → ℕ → W → Type 0) (timeout : Option ℕ)
   )
 
   -- the clock was read, the round begun, waited for and finished
-  pub ran-read : (r0 r1 r2 r3 : Option (List Event)) (m0 m1 m2 m3 t : ℕ) (old new : ReactorState) (begun : Core) (wakes wakes' : W) (got shown : List Report)
-      (waited : Result ℕ ReactError) (finished answer : Result (Unit {0}) ReactError) → r1 ≡ told r0 (event.Now t ∷ []) → m0 ≤ t → m1 ≡ t →
-      Step old.core Begin Done [] begun → ((p : Pause) × Paused timeout r1 r2 m1 m2 got waited p) → shown ≡ got → length shown ≤ old.events → m3 ≡ m2 →
+  pub ran-read : (r0 r1 r2 r3 : Option (List Event)) (m0 m1 m2 m3 t : ℕ) (old new : ReactorState) (begun : Core) (wakes wakes' : W) (got shown : List Report) (again : Option ℕ)
+      (waited : Result Came ReactError) (finished answer : Result (Unit {0}) ReactError) → r1 ≡ told r0 (event.Now t ∷ []) → m0 ≤ t → m1 ≡ t →
+      Step old.core (Begin t timeout) (Began (begun_at old.core t timeout)) [] begun → ((p : Pause) × Paused (wait_limit old.core t timeout) r1 r2 m1 m2 got again waited p) → shown ≡ got → length shown ≤ old.events → m3 ≡ m2 →
       ((tries : List Try) × Tried (armings_by_all begun.ticker begun.sources shown) finished ample r2 r3 tries) →
-      Step begun (Finish shown) Done (finish_wakes begun shown) new.core → WokeAll woke wakes (finish_wakes begun shown) wakes' →
+      Step begun (Finish shown again) Done (finish_wakes begun shown again) new.core → WokeAll woke wakes (finish_wakes begun shown again) wakes' →
       answer ≡ then_answer (answer_of waited) finished →
       (course : Course) × (tries : List Try) × Ran woke timeout ample r0 r3 m0 m3 old new wakes wakes' answer course tries
-  ran-read r0 r1 r2 r3 m0 m1 m2 m3 t old new begun wakes wakes' got shown waited finished answer first le at begins pause same within later tried finishes woken is =
+  ran-read r0 r1 r2 r3 m0 m1 m2 m3 t old new begun wakes wakes' got shown again waited finished answer first le at begins pause same within later tried finishes woken is =
       let p = pause.0 in
       let tries = tried.0 in
       let reports : shown ≡ pause_reports p = same ∙ pause.1.reported in
@@ -67,20 +69,20 @@ module _ {W : Type 0} (woke : W → ℕ → W → Type 0) (timeout : Option ℕ)
           within = subst Within reports within;
           each = tried.1.each ∙ ap (armings_by_all begun.ticker begun.sources) reports ∙ ap (λ core. armings_by_all core.ticker core.sources (pause_reports p)) begins.core;
           answers = is ∙ ap (λ a. then_answer a finished) pause.1.answers ∙ ap (λ b. then_answer (pause_answer p) b) tried.1.answers;
-          gained = tried.1.gained ∙ ap (λ r. told r (tries_told tries)) (pause.1.gained ∙ ap (λ r. told r (pause_told timeout p)) first)
-              ∙ ap (λ r. told r (tries_told tries)) (told-told r0 (event.Now t ∷ []) (pause_told timeout p))
-              ∙ told-told r0 (event.Now t ∷ pause_told timeout p) (tries_told tries);
+          gained = tried.1.gained ∙ ap (λ r. told r (tries_told tries)) (pause.1.gained ∙ ap (λ r. told r (pause_told (wait_limit old.core t timeout) p)) first)
+              ∙ ap (λ r. told r (tries_told tries)) (told-told r0 (event.Now t ∷ []) (pause_told (wait_limit old.core t timeout) p))
+              ∙ told-told r0 (event.Now t ∷ pause_told (wait_limit old.core t timeout) p) (tries_told tries);
           lack = tried.1.lack;
           clock = (le, subst ClockTo (sym later) (subst ClockFrom at pause.1.clock));
-          tasks = finish_wakes begun shown;
+          tasks = finish_wakes begun shown again;
           steps = record {
             open_ = begun;
             begins = begins;
             returns = record { running = finishes.running; wakes = refl; core = refl };
             finishes = record {
               running = finishes.running;
-              wakes = ap (finish_wakes begun) reports;
-              core = finishes.core ∙ ap (finished_round begun) reports;
+              wakes = ap (λ rs. finish_wakes begun rs again) reports ∙ ap (finish_wakes begun (pause_reports p)) pause.1.reread;
+              core = finishes.core ∙ ap (λ rs. finished_round begun rs again) reports ∙ ap (finished_round begun (pause_reports p)) pause.1.reread;
             };
           };
           woken = woken;
@@ -89,9 +91,9 @@ module _ {W : Type 0} (woke : W → ℕ → W → Type 0) (timeout : Option ℕ)
 
 -- nothing is refused after a wait that was
 pub refused_alone : (timeout : Option ℕ) (r0 r1 r2 r3 : Option (List Event)) (m0 m1 ticker : ℕ)
-    (old : List (ℕ × Source)) (got shown : List Report) (waited : Result ℕ ReactError) (taken : Result (Unit {0}) ReactError) (e : ReactError) (ample : Bool) →
-    waited ≡ Err e → ((p : Pause) × Paused timeout r0 r1 m0 m1 shown waited p) → got ≡ shown → ((tries : List Try) × Tried (armings_by_all ticker old got) taken ample r2 r3 tries) → taken ≡ Ok tt
-refused_alone timeout r0 r1 r2 r3 m0 m1 ticker old got shown waited taken e ample is pause same tried =
+    (old : List (ℕ × Source)) (got shown : List Report) (again : Option ℕ) (waited : Result Came ReactError) (taken : Result (Unit {0}) ReactError) (e : ReactError) (ample : Bool) →
+    waited ≡ Err e → ((p : Pause) × Paused timeout r0 r1 m0 m1 shown again waited p) → got ≡ shown → ((tries : List Try) × Tried (armings_by_all ticker old got) taken ample r2 r3 tries) → taken ≡ Ok tt
+refused_alone timeout r0 r1 r2 r3 m0 m1 ticker old got shown again waited taken e ample is pause same tried =
     let none : got ≡ [] = same ∙ pause.1.reported ∙ silent pause.0 e (ap answer_of (sym is) ∙ pause.1.answers) pause.1.form in
     let Nothing : List Report → Type 0 = λ rs. Tried (armings_by_all ticker old rs) taken ample r2 r3 tried.0 in
     Tried-nothing taken ample r2 r3 tried.0 (subst Nothing none tried.1)
@@ -113,7 +115,7 @@ refused_alone timeout r0 r1 r2 r3 m0 m1 ticker old got shown waited taken e ampl
     silent (Reread a t) e q form = failed a e q
     silent (Unreread a) e q form = quiet a (sym form)
 
-pub RoundCounted-both : (waited : Result ℕ ReactError) (taken answer : Result (Unit {0}) ReactError) (a b c : ℕ) → ReactCounted waited a b → ReactCounted taken b c →
+pub RoundCounted-both : (waited : Result Came ReactError) (taken answer : Result (Unit {0}) ReactError) (a b c : ℕ) → ReactCounted waited a b → ReactCounted taken b c →
     ((e : ReactError) → waited ≡ Err e → taken ≡ Ok tt) → answer ≡ then_answer (answer_of waited) taken → RoundCounted answer a c
 RoundCounted-both (Ok n) (Ok u) answer a b c p q none is = rw is (omega (arith, p, q))
 RoundCounted-both (Ok n) (Err Poller) answer a b c p q none is = rw is (omega (arith, p, q))

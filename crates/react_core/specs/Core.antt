@@ -1,5 +1,8 @@
 -- The reactor's core as plain data.
 use Rattle.std.specs.Prelude.{◌≡◌, ◌<◌, ◌^◌, ℕ, List, [], Option, None, IsSome}
+use Rattle.react_timers.specs.declared.timer.LiveTimer.{LiveTimer}
+use Rattle.react_timers.specs.declared.timer.TimerOp.{TimerOp}
+use Rattle.react_timers.specs.Live.{Rises, applied_all}
 use Rattle.react_core.specs.Places.{Source}
 use Rattle.react_core.specs.Sources.{source_of, with_new, without, new_source, RisesFrom}
 
@@ -12,6 +15,10 @@ pub record Core : Type 0 where
   pub begun : ℕ
   -- by rising key
   pub sources : List (ℕ × Source)
+  -- the operations on timers that wait, the first first
+  pub queue : List TimerOp
+  -- by rising number
+  pub timers : List LiveTimer
   -- the tasks that the open round has taken, where one is open
   pub hands : Option (List ℕ)
 
@@ -20,23 +27,30 @@ pub record ReactorState : Type 0 where
   pub core : Core
   pub events : ℕ
 
--- what holds of each reactor's core: no number passes the end of its type, and the keys of the sources rise
+-- what holds of each reactor's core: no number passes the end of its type, and the keys of the sources and the numbers
+-- of the timers rise
 pub record Fits (core : Core) : Type 0 where
   pub ticker : core.ticker < 2 ^ 64
   pub made : core.made < 2 ^ 64
   pub begun : core.begun < 2 ^ 64
   pub rises : RisesFrom 0 core.sources
+  pub timers : Rises core.timers
 
 -- an idle core with these counters
 abbrev pub new_core : ℕ → ℕ → Core
-new_core tick timer = record { ticker = tick; made = timer; begun = 0; sources = []; hands = None }
+new_core tick timer =
+    record { ticker = tick; made = timer; begun = 0; sources = []; queue = []; timers = []; hands = None }
 
 abbrev pub HasSource : Core → ℕ → Type 0
 HasSource core key = IsSome (source_of core.sources key)
 
--- no round is open, and there is no source
+-- the timers, once the queue is applied
+abbrev pub timers_applied : Core → List LiveTimer
+timers_applied core = applied_all core.timers core.queue
+
+-- no round is open, there is no source, and no timer once the queue is applied
 abbrev pub IsIdle : Core → Type 0
-IsIdle core = (core.hands ≡ None) × (core.sources ≡ [])
+IsIdle core = (core.hands ≡ None) × (core.sources ≡ []) × (timers_applied core ≡ [])
 
 abbrev pub IsRoundOpen : Core → Type 0
 IsRoundOpen core = IsSome core.hands

@@ -6,12 +6,13 @@ use Rattle.react_core.specs.declared.outside.Event.TheVariants as event
 use Rattle.react_core.specs.declared.outside.Report.{Report}
 use Rattle.react_core.specs.declared.outside.WaitAnswer.{WaitAnswer}
 use Rattle.react_core.specs.declared.outside.WaitAnswer.TheVariants as wait_answer
-use Rattle.react_core.specs.declared.reactor.Counter.TheVariants as counter
+use Rattle.react_core.specs.declared.reactor.Counter.{Counter}
 use Rattle.react_core.specs.declared.reactor.ReactError.{ReactError}
 use Rattle.react_core.specs.declared.reactor.ReactError.TheVariants.{Poller, OutOfMemory, Exhausted}
 use Rattle.react_core.specs.Core.{Core, ReactorState}
 use Rattle.react_core.specs.Reports.{armings_by_all, Try, tries_told, worst, LackSo}
 use Rattle.react_core.specs.Step.{RoundSteps, WokeAll}
+use Rattle.react_core.specs.Timing.{wait_limit}
 use Rattle.react_core.specs.Told.{Rose, told}
 
 abbrev pub reports_of : WaitAnswer → List Report
@@ -56,9 +57,10 @@ IsPause timeout (Waited answer) = is_quiet timeout answer ≡ false
 IsPause timeout (Reread answer moment) = is_quiet timeout answer ≡ true
 IsPause timeout (Unreread answer) = is_quiet timeout answer ≡ true
 
-abbrev pub IsCourse : Option ℕ → Course → Type 0
-IsCourse timeout Unread = Unit {0}
-IsCourse timeout (Read first pause) = IsPause timeout pause
+-- the wait's timeout is a function of the first reading
+abbrev pub IsCourse : (ℕ → Option ℕ) → Course → Type 0
+IsCourse limit Unread = Unit {0}
+IsCourse limit (Read first pause) = IsPause (limit first) pause
 
 abbrev pub pause_told : Option ℕ → Pause → List Event
 pause_told timeout Unwaited = []
@@ -66,15 +68,22 @@ pause_told timeout (Waited answer) = event.Wait timeout answer ∷ []
 pause_told timeout (Reread answer moment) = event.Wait timeout answer ∷ event.Now moment ∷ []
 pause_told timeout (Unreread answer) = event.Wait timeout answer ∷ []
 
-abbrev pub course_told : Option ℕ → Course → List Event
-course_told timeout Unread = []
-course_told timeout (Read first pause) = event.Now first ∷ pause_told timeout pause
+abbrev pub course_told : (ℕ → Option ℕ) → Course → List Event
+course_told limit Unread = []
+course_told limit (Read first pause) = event.Now first ∷ pause_told (limit first) pause
 
 abbrev pub pause_reports : Pause → List Report
 pause_reports Unwaited = []
 pause_reports (Waited answer) = reports_of answer
 pause_reports (Reread answer moment) = reports_of answer
 pause_reports (Unreread answer) = reports_of answer
+
+-- the second reading, where there was one
+abbrev pub pause_again : Pause → Option ℕ
+pause_again Unwaited = None
+pause_again (Waited answer) = None
+pause_again (Reread answer moment) = Some moment
+pause_again (Unreread answer) = None
 
 abbrev pub course_reports : Course → List Report
 course_reports Unread = []
@@ -108,9 +117,10 @@ CourseClock before (Read first pause) now = (before ≤ first) × PauseClock fir
 
 -- what a course does to the core, and the tasks that it wakes: nothing where the clock could not be read, else a round
 -- with the reports of its wait
-abbrev pub CourseSteps : Core → Course → List ℕ → Core → Type 0
-CourseSteps old Unread woken new = record { wakes : woken ≡ []; core : new ≡ old }
-CourseSteps old (Read first pause) woken new = RoundSteps old (pause_reports pause) woken new
+abbrev pub CourseSteps : Core → Option ℕ → Course → List ℕ → Core → Type 0
+CourseSteps old timeout Unread woken new = record { wakes : woken ≡ []; core : new ≡ old }
+CourseSteps old timeout (Read first pause) woken new =
+    RoundSteps old first timeout (pause_reports pause) (pause_again pause) woken new
 
 -- the first refusal of two answers
 abbrev pub then_answer : Result (Unit {0}) ReactError → Result (Unit {0}) ReactError → Result (Unit {0}) ReactError
@@ -122,27 +132,27 @@ then_answer (Err e) second = Err e
 pub record Ran {W : Type 0} (woke : W → ℕ → W → Type 0) (timeout : Option ℕ) (ample : Bool)
     (before after : Option (List Event)) (moment now : ℕ) (old new : ReactorState) (wakes wakes' : W)
     (answer : Result (Unit {0}) ReactError) (course : Course) (tries : List Try) : Type 0 where
-  pub form : IsCourse timeout course
+  pub form : IsCourse (λ first. wait_limit old.core first timeout) course
   -- a wait gives no more reports than the reactor has room for
   pub within : length (course_reports course) ≤ old.events
   pub each : map (λ t. t.0) tries ≡ armings_by_all (old.core.ticker + 1) old.core.sources (course_reports course)
   pub answers : answer ≡ then_answer (course_answer course) (worst tries)
-  pub gained : after ≡ told before (course_told timeout course ++ tries_told tries)
+  pub gained : after ≡ told before (course_told (λ first. wait_limit old.core first timeout) course ++ tries_told tries)
   pub lack : LackSo ample tries
   pub clock : CourseClock moment course now
   -- the tasks that the round's end wakes
   pub tasks : List ℕ
-  pub steps : CourseSteps old.core course tasks new.core
+  pub steps : CourseSteps old.core timeout course tasks new.core
   pub woken : WokeAll woke wakes tasks wakes'
 
--- ---- the number of the next round
+-- ---- the next number of a counter
 
--- Exhausted exactly where the next round's number was needed and the last one stood at its type's end
-abbrev pub NumberedBy : {T : Type 0} → Result T ReactError → ℕ → Type 0
-NumberedBy (Ok v) ticker = ticker ≢ 2 ^ 64 - 1
-NumberedBy (Err Poller) ticker = ticker ≢ 2 ^ 64 - 1
-NumberedBy (Err OutOfMemory) ticker = ticker ≢ 2 ^ 64 - 1
-NumberedBy (Err (Exhausted c value)) ticker = (c ≡ counter.Round) × (value ≡ 2 ^ 64 - 1) × (ticker ≡ 2 ^ 64 - 1)
+-- Exhausted exactly where the next number of this counter was needed and the last one stood at its type's end
+abbrev pub NumberedBy : {T : Type 0} → Counter → Result T ReactError → ℕ → Type 0
+NumberedBy counter (Ok v) last = last ≢ 2 ^ 64 - 1
+NumberedBy counter (Err Poller) last = last ≢ 2 ^ 64 - 1
+NumberedBy counter (Err OutOfMemory) last = last ≢ 2 ^ 64 - 1
+NumberedBy counter (Err (Exhausted c value)) last = (c ≡ counter) × (value ≡ 2 ^ 64 - 1) × (last ≡ 2 ^ 64 - 1)
 
 -- what holds where a number was exhausted
 abbrev pub OnExhausted : {T : Type 0} → Result T ReactError → Type 0 → Type 0
@@ -170,11 +180,12 @@ abbrev pub answer_of : {T : Type 0} → Result T ReactError → Result (Unit {0}
 answer_of (Ok v) = Ok tt
 answer_of (Err e) = Err e
 
--- a pause of this form, after the clock's first reading
+-- a pause of this form, after the clock's first reading, with this second one
 pub record Paused {T : Type 0} (timeout : Option ℕ) (before after : Option (List Event)) (first now : ℕ)
-    (reports : List Report) (answer : Result T ReactError) (p : Pause) : Type 0 where
+    (reports : List Report) (again : Option ℕ) (answer : Result T ReactError) (p : Pause) : Type 0 where
   pub form : IsPause timeout p
   pub gained : after ≡ told before (pause_told timeout p)
   pub clock : PauseClock first p now
   pub reported : reports ≡ pause_reports p
+  pub reread : again ≡ pause_again p
   pub answers : answer_of answer ≡ pause_answer p

@@ -11,14 +11,18 @@ ghost use Rattle.react_core.specs.Told.{told};
 
 use crate::interest::Asked;
 use crate::outside::{Clock, Fault, OutOfMemory, Poller, Registrar, Report, Wakes};
-use crate::rounds::{count_of, first_refusal, take_reports, wait_for_reports, wake_all};
+use crate::rounds::{came_of, first_refusal, take_reports, wait_for_reports, wake_all};
 use crate::source::{Source, make_place, make_room, put_in, take_out};
+use crate::timing::{take_due, wait_limit};
 use futures::task::Poll;
+use react_timers::timers::Timers;
 use slab::Slab;
 use std::alloc::Global;
 use std::marker::Model;
 use std::{fmt, mem};
 use thiserror::Error;
+
+mod timers;
 
 /// A direction in which a source can be ready.
 #[derive(Clone, Copy, Debug, PartialEq, Eq)]
@@ -31,12 +35,14 @@ pub enum Dir {
 #[derive(Clone, Copy, Debug, PartialEq, Eq)]
 pub enum Counter {
     Round,
+    Timer,
 }
 
 impl fmt::Display for Counter {
     fn fmt<W: fmt::Write>(&self, f: &mut fmt::Formatter<W>) -> fmt::Result {
         match self {
             Counter::Round => write!(f, "round"),
+            Counter::Timer => write!(f, "timer"),
         }
     }
 }
@@ -91,7 +97,7 @@ const NO_REPORT: Report = Report {
     write: false,
 };
 
-/// Sources with the tasks that wait for them, and rounds that wake these tasks.
+/// Sources and timers with the tasks that wait for them, and rounds that wake these tasks.
 #[derive(Drop)]
 pub struct Reactor {
     ticker: u64,
@@ -100,6 +106,7 @@ pub struct Reactor {
     sources: Slab<Source>,
     // How many places futures hold at all sources.
     places: usize,
+    timers: Timers,
     hands: Vec<u64>,
     in_round: bool,
     reports: Vec<Report>,
@@ -111,6 +118,7 @@ impl Model for Reactor {
     ghost use Rattle.slab.specs.Slab.{entries};
     ghost use Rattle.react_core.specs.Core.{Core, ReactorState};
     ghost use Rattle.react_core.specs.Sources.{AllDated, all_places};
+    ghost use Rattle.react_timers.specs.Live.{insertions};
 
     ghost Value = { ReactorState };
 
@@ -120,15 +128,18 @@ impl Model for Reactor {
         made = r.made;
         begun = r.begun;
         sources = entries r.sources;
+        queue = r.timers.queue;
+        timers = r.timers.live;
         hands = if r.in_round then Some r.hands.items else None;
       };
       events = length r.reports.items;
     } };
 
-    // There is room for the two tasks that each source can hold and for each future's, no source names a later round
-    // than the last, and an open round has a number above 0.
+    // There is room for the two tasks that each source can hold, for each future's and for each timer's, no source names
+    // a later round than the last, and an open round has a number above 0.
     ghost invariant = { λ r. record {
-      room : vec_len r.hands + (2 * length (entries r.sources) + r.places) ≤ vec_capacity r.hands;
+      room : vec_len r.hands + (2 * length (entries r.sources)
+          + (r.places + (length r.timers.live + insertions r.timers.queue))) ≤ vec_capacity r.hands;
       places : r.places ≡ all_places (entries r.sources);
       dated : AllDated r.ticker (entries r.sources);
       numbered : r.in_round ≡ true → 1 ≤ r.ticker;
@@ -164,17 +175,24 @@ impl Reactor {
             begun: 0,
             sources: Slab::new(alloc),
             places: 0,
+            timers: Timers::new(alloc)?,
             hands: Vec::new(alloc),
             in_round: false,
             reports,
         })
     }
 
-    /// Whether no round is open and there is no source.
+    /// Whether no round is open, there is no source, and there is no timer once the queued operations are applied.
     pub fn is_idle(&self) -> bool
         ensures { IsTrue result ↔ IsIdle self.now.core }
     {
-        !self.in_round && self.sources.is_empty()
+        if self.in_round {
+            return false;
+        }
+        if !self.sources.is_empty() {
+            return false;
+        }
+        self.timers.is_empty_applied()
     }
 
     /// The number of the last round that was begun.
@@ -212,7 +230,7 @@ impl Reactor {
         self.sources.contains(key)
     }
 
-    /// Law: no number passes `u64::MAX`, and the keys of the sources rise.
+    /// Law: no number passes `u64::MAX`, and the keys of the sources and the numbers of the timers rise.
     pub fn fits(&self)
         ensures { Fits self.now.core }
     {
@@ -221,6 +239,7 @@ impl Reactor {
         prove!(made <= u64::MAX);
         prove!(begun <= u64::MAX);
         let _ = &self.sources;
+        let _ = self.timers.live();
     }
 
     /// Whether a round was begun and not finished.
@@ -228,6 +247,20 @@ impl Reactor {
         ensures { result ≡ is_some self.now.core.hands }
     {
         self.in_round
+    }
+}
+
+impl Reactor {
+    ghost use Rattle.std.specs.Prelude.{◌+◌, length};
+    ghost use Rattle.react_core.specs.Sources.{all_places};
+    ghost use Rattle.react_timers.specs.Live.{insertions};
+
+    /// How many tasks of futures and timers a round may take at most.
+    fn most_others(&self) -> usize
+        ensures { result ≡ all_places self.now.core.sources
+            + (length self.now.core.timers + insertions self.now.core.queue) }
+    {
+        self.places + (self.timers.live() + self.timers.awaited())
     }
 }
 
@@ -259,7 +292,8 @@ impl Reactor {
         ensures keeps { Keeps part.Poller (R.outer registrar.old) (R.outer registrar.new) }
     {
         // Whatever can be refused comes first, so that there is nothing to take back.
-        make_room(&mut self.sources, self.places, &mut self.hands)?;
+        let others = self.most_others();
+        make_room(&mut self.sources, others, &mut self.hands)?;
         let key = self.sources.vacant_key();
         registrar.add(wire, key)?;
         Ok(put_in(&mut self.sources, Source::new(alloc, wire)))
@@ -406,6 +440,7 @@ impl Reactor {
         ensures keeps { Keeps part.Poller (R.outer registrar.old) (R.outer registrar.new) }
     {
         let sources = self.sources.len();
+        let others = self.most_others();
         let Some(source) = self.sources.get_mut(key) else {
             unreachable!()
         };
@@ -415,9 +450,9 @@ impl Reactor {
             let answer = interest.poll_held(registrar, arming, place, task)?;
             return Ok((place, answer));
         }
-        let places = make_place(sources, self.places, &mut self.hands)?;
+        make_place(sources, others, &mut self.hands)?;
         let place = interest.poll_first(registrar, arming, self.ticker, task)?;
-        self.places = places;
+        self.places += 1;
         Ok((place, Poll::Pending))
     }
 
@@ -445,25 +480,30 @@ impl Reactor {
     ghost use Rattle.react_core.specs.Core.{IsRoundOpen};
     ghost use Rattle.react_core.specs.Reports.{armings_by_all, armed_told, Try, Tried};
     ghost use Rattle.react_core.specs.Round.{NumberedBy};
-    ghost use Rattle.react_core.specs.Step.{Step, Begin, Finish, Done, WokeAll, begun_round, finished_round};
-    ghost use Rattle.react_core.specs.Step.{finish_wakes};
+    ghost use Rattle.react_core.specs.Step.{Step, Begin, Finish, Began, Done, WokeAll, begun_round, finished_round};
+    ghost use Rattle.react_core.specs.Step.{finish_wakes, begun_at};
+    ghost use Rattle.react_core.specs.declared.reactor.Counter.TheVariants as counter;
 
-    /// Begins a round: its number, and how long it may wait.
+    /// Begins a round at this moment, in nanoseconds: its number, and how long it may wait.
     ///
-    /// Exhausted: the last round's number was `u64::MAX`. The reactor stays as it was.
+    /// The queued operations are applied, and the tasks of the timers with a moment at most `now` are taken in hand, in
+    /// the order of moment, then number. Where one was, the round does not wait; else it waits up to the nearest moment
+    /// of a timer, and not beyond `timeout`.
+    ///
+    /// Exhausted: the last round's number was `u64::MAX`. The reactor stays as it was. No memory is needed.
     pub fn begin_round(
         &mut self,
         _alloc: Global,
-        _now: u64,
+        now: u64,
         timeout: Option<u64>,
     ) -> Result<Begun, ReactError>
         requires { self.old.core.hands ≡ None }
-        ensures begun { IfOk result (λ b. b ≡ record { round = self.old.core.ticker + 1; timeout = timeout }) }
-        ensures core { OnOk result (self.new ≡ record self.old { core = begun_round self.old.core }) }
+        ensures begun { IfOk result (λ b. b ≡ begun_at self.old.core now timeout) }
+        ensures core { OnOk result (self.new ≡ record self.old { core = begun_round self.old.core now }) }
         ensures steps { CoreSteps self.old.core self.new.core }
-        ensures step { OnOk result (Step self.old.core Begin Done [] self.new.core) }
+        ensures step { IfOk result (λ b. Step self.old.core (Begin now timeout) (Began b) [] self.new.core) }
         ensures err { OnErr result (self.new ≡ self.old) }
-        ensures cause { NumberedBy result self.old.core.ticker }
+        ensures cause { NumberedBy counter.Round result self.old.core.ticker }
         ensures exhausted { OnErr result (self.old.core.ticker ≡ u64.MAX) }
     {
         if self.ticker == u64::MAX {
@@ -472,12 +512,14 @@ impl Reactor {
                 value: self.ticker,
             });
         }
-        self.ticker += 1;
         self.hands.clear();
+        take_due(&mut self.timers, &mut self.hands, Some(now));
+        let nearest = self.timers.nearest();
+        self.ticker += 1;
         self.in_round = true;
         Ok(Begun {
             round: self.ticker,
-            timeout,
+            timeout: wait_limit(&self.hands, nearest, now, timeout),
         })
     }
 
@@ -485,7 +527,8 @@ impl Reactor {
     ///
     /// A report of a key without a source is passed over. Each direction that another one names is marked with this
     /// round's number, and its task is taken, write before read; where a task of the source is left, the poller is
-    /// asked to report all directions that still wait.
+    /// asked to report all directions that still wait. Where the clock was read again, `again` is that moment, in
+    /// nanoseconds: the queued operations are applied, and the tasks of the timers that are due then are taken, too.
     ///
     /// Poller: the poller refused one of these. The round is done to its end all the same, as it is where one of them
     /// found no memory.
@@ -495,14 +538,14 @@ impl Reactor {
         registrar: &mut R,
         wakes: &mut W,
         reports: &[Report],
-        _later: Option<u64>,
+        again: Option<u64>,
     ) -> Result<(), ReactError>
         requires { IsRoundOpen self.old.core }
-        ensures core { self.new ≡ record self.old { core = finished_round self.old.core reports.now } }
+        ensures core { self.new ≡ record self.old { core = finished_round self.old.core reports.now again } }
         ensures steps { CoreSteps self.old.core self.new.core }
-        ensures step { Step self.old.core (Finish reports.now) Done (finish_wakes self.old.core reports.now)
-            self.new.core }
-        ensures woken { WokeAll W.woke wakes.old (finish_wakes self.old.core reports.now) wakes.new }
+        ensures step { Step self.old.core (Finish reports.now again) Done
+            (finish_wakes self.old.core reports.now again) self.new.core }
+        ensures woken { WokeAll W.woke wakes.old (finish_wakes self.old.core reports.now again) wakes.new }
         ensures told { OnOk result ((R.outer registrar.new).events ≡ told (R.outer registrar.old).events
             (map armed_told (armings_by_all self.old.core.ticker self.old.core.sources reports.now))) }
         ensures memory { OnReactLack result ((R.outer registrar.old).ample ≡ false) }
@@ -520,6 +563,7 @@ impl Reactor {
             registrar,
             reports,
         );
+        take_due(&mut self.timers, &mut self.hands, again);
         // Also after a refusal: nobody else would wake the tasks that were taken.
         wake_all(wakes, &self.hands);
         self.hands.clear();
@@ -532,10 +576,12 @@ impl Reactor {
     ghost use Rattle.std.specs.Prelude.{List};
     ghost use Rattle.react_core.specs.Reports.{Try};
     ghost use Rattle.react_core.specs.Round.{Course, Ran, NumberedBy, OnExhausted, UnlessExhausted, RoundCounted};
+    ghost use Rattle.react_core.specs.declared.reactor.Counter.TheVariants as counter;
 
-    /// One round over an outside: reads the clock, begins, waits, and finishes with the reports that came. The clock is
-    /// read again exactly where nothing came in time, the wait was not interrupted and its timeout wasn't zero. A wait
-    /// that failed is finished with no reports.
+    /// One round over an outside: reads the clock, begins, waits, and finishes with the reports that came. It waits for at
+    /// most `timeout`, in nanoseconds, and not beyond the nearest moment of a timer. The clock is read again exactly where
+    /// nothing came in time, the wait was not interrupted and its timeout wasn't zero. A wait that failed is finished
+    /// with no reports.
     ///
     /// Exhausted: the last round's number was `u64::MAX`; nothing is done. Poller: the poller failed in the wait or in
     /// an arming. No round is open afterwards in any case.
@@ -554,7 +600,7 @@ impl Reactor {
             course tries) }
         ensures closed { self.new.core.hands ≡ None }
         ensures reports { self.new.events ≡ self.old.events }
-        ensures numbered { NumberedBy result self.old.core.ticker }
+        ensures numbered { NumberedBy counter.Round result self.old.core.ticker }
         ensures exhausted { OnExhausted result (self.new ≡ self.old × wakes.new ≡ wakes.old ×
             (O.outer outside.new).events ≡ (O.outer outside.old).events ×
             (O.outer outside.new).moment ≡ (O.outer outside.old).moment) }
@@ -576,8 +622,9 @@ impl Reactor {
         let buffer = reports.as_mut_slice();
         let waited = wait_for_reports(outside, begun.timeout, buffer);
         // The round ends in any case, with no reports where the wait was refused.
-        let (shown, _rest) = buffer.split_at(count_of(&waited));
-        let finished = self.finish_round(alloc, outside, wakes, shown, None);
+        let came = came_of(&waited);
+        let (shown, _rest) = buffer.split_at(came.count);
+        let finished = self.finish_round(alloc, outside, wakes, shown, came.again);
         self.reports = reports;
         first_refusal(waited, finished)
     }

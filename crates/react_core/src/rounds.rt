@@ -1,6 +1,6 @@
 //! The parts of a round: its wait, its reports and its wakes.
 ghost use Rattle.std.specs.Prelude.{◌≡◌, ◌+◌, ◌*◌, ◌++◌, ◌≤◌, false, List, [], length, take, vec_len, vec_capacity};
-ghost use Rattle.std.specs.Result.{result_unwrap_or};
+ghost use Rattle.react_core.specs.Pausing.{came_of};
 ghost use Rattle.slab.specs.Slab.{entries};
 ghost use Rattle.react_core.specs.Causes.{ReactCounted, OnReactLack};
 ghost use Rattle.react_core.specs.Reports.{after_report, after_reports, taken_by, taken_by_all, armings_by};
@@ -18,19 +18,32 @@ use crate::reactor::ReactError;
 use crate::source::Source;
 use slab::Slab;
 
-/// How many reports a wait gave.
-pub(crate) fn count_of(waited: &Result<usize, ReactError>) -> usize
-    ensures { result ≡ result_unwrap_or waited.now 0 }
+/// What a wait gave: how many reports, and the second reading of the clock, in nanoseconds, where there was one.
+#[derive(Clone, Copy)]
+pub(crate) struct Came {
+    pub(crate) count: usize,
+    pub(crate) again: Option<u64>,
+}
+
+/// Where a wait was refused.
+const NOTHING: Came = Came {
+    count: 0,
+    again: None,
+};
+
+/// What a wait gave, and nothing where it was refused.
+pub(crate) fn came_of(waited: &Result<Came, ReactError>) -> Came
+    ensures { result ≡ came_of waited.now }
 {
     match waited {
-        Ok(count) => *count,
-        Err(_) => 0,
+        Ok(came) => *came,
+        Err(_) => NOTHING,
     }
 }
 
 /// The wait's refusal, else the answer to its reports.
 pub(crate) fn first_refusal(
-    waited: Result<usize, ReactError>,
+    waited: Result<Came, ReactError>,
     taken: Result<(), ReactError>,
 ) -> Result<(), ReactError>
     ensures { result ≡ then_answer (answer_of waited) taken }
@@ -41,29 +54,33 @@ pub(crate) fn first_refusal(
     }
 }
 
-/// Waits, and reads the clock again where nothing came in time. Answers how many reports came.
+/// Waits, and reads the clock again where nothing came in time.
 pub(crate) fn wait_for_reports<O: Clock + Waiter>(
     outside: &mut O,
     timeout: Option<u64>,
     reports: &mut [Report],
-) -> Result<usize, ReactError>
+) -> Result<Came, ReactError>
     ensures pause { (p : Pause) × Paused timeout (O.outer outside.old).events (O.outer outside.new).events
-        (O.outer outside.old).moment (O.outer outside.new).moment (take (result_unwrap_or result 0) reports.new)
-        result p }
-    ensures within { result_unwrap_or result 0 ≤ length reports.old }
+        (O.outer outside.old).moment (O.outer outside.new).moment (take (came_of result).count reports.new)
+        (came_of result).again result p }
+    ensures within { (came_of result).count ≤ length reports.old }
     ensures memory { OnReactLack result ((O.outer outside.old).ample ≡ false) }
     ensures cause { ReactCounted result (O.outer outside.old).poller_faults (O.outer outside.new).poller_faults }
     ensures keeps { Keeps (part.Round (length reports.old)) (O.outer outside.old) (O.outer outside.new) }
 {
     let count = match outside.wait(timeout, reports)? {
         // The timeout need not have passed.
-        Waited::Interrupted => return Ok(0),
+        Waited::Interrupted => return Ok(NOTHING),
         Waited::Reported(count) => count,
     };
     if count == 0 && may_pass(timeout) {
-        let _second = outside.now()?;
+        let again = outside.now()?;
+        return Ok(Came {
+            count,
+            again: Some(again),
+        });
     }
-    Ok(count)
+    Ok(Came { count, again: None })
 }
 
 /// Whether a wait of this length doesn't end at once.
@@ -101,6 +118,8 @@ pub(crate) fn take_reports<R: Registrar>(
     ensures len { length (entries sources.new) ≡ length (entries sources.old) }
     ensures hands { hands.new.items ≡ hands.old.items ++ taken_by_all ticker (entries sources.old) reports.now }
     ensures capacity { vec_capacity hands.new ≡ vec_capacity hands.old }
+    ensures room { vec_len hands.new ≤ vec_len hands.old + (2 * length (entries sources.old)
+        + all_places (entries sources.old)) }
     ensures tried { (tries : List Try) × Tried (armings_by_all ticker (entries sources.old) reports.now) result
         (R.outer registrar.old).ample (R.outer registrar.old).events (R.outer registrar.new).events tries }
     ensures memory { OnReactLack result ((R.outer registrar.old).ample ≡ false) }

@@ -1,5 +1,5 @@
 //! Sources, and the table that holds them by their keys.
-ghost use Rattle.std.specs.Prelude.{◌≡◌, ◌+◌, ◌++◌, ◌*◌, ◌≤◌, ◌<◌, ◌^◌, false, None, Some, IfOk, IfSome, OnOk, length};
+ghost use Rattle.std.specs.Prelude.{◌≡◌, ◌+◌, ◌++◌, ◌*◌, ◌≤◌, ◌<◌, ◌^◌, false, None, Some, IfSome, OnOk, length};
 ghost use Rattle.std.specs.Prelude.{vec_len, vec_capacity};
 ghost use Rattle.std.specs.Borrow.{sem};
 ghost use Rattle.slab.specs.Slab.{entries, HasRoomFor};
@@ -119,55 +119,54 @@ impl Source {
     }
 }
 
-/// How many tasks can wait at so many sources and futures' places, where that is a number of the type.
-fn most_tasks(sources: usize, places: usize) -> Option<usize>
-    ensures { IfSome result (λ tasks. tasks ≡ 2 * sources + places) }
+/// How many tasks can wait at so many sources and others, futures' places or timers, where that is a number of the type.
+fn most_tasks(sources: usize, others: usize) -> Option<usize>
+    ensures { IfSome result (λ tasks. tasks ≡ 2 * sources + others) }
 {
-    sources.checked_mul(2)?.checked_add(places)
+    sources.checked_mul(2)?.checked_add(others)
 }
 
 /// Reserves what one source more needs: its own place, and in `hands` two for each source that has one, beside one for
-/// each future's place.
+/// each other task, a future's or a timer's.
 pub(crate) fn make_room(
     sources: &mut Slab<Source>,
-    places: usize,
+    others: usize,
     hands: &mut Vec<u64>,
 ) -> Result<(), OutOfMemory>
     ensures sources { entries sources.new ≡ entries sources.old }
     ensures hands { hands.new.items ≡ hands.old.items }
     ensures place { OnOk result (HasRoomFor sources.new 1) }
     ensures tasks { OnOk result
-        (vec_len hands.new + (2 * (length (entries sources.old) + 1) + places) ≤ vec_capacity hands.new) }
+        (vec_len hands.new + (2 * (length (entries sources.old) + 1) + others) ≤ vec_capacity hands.new) }
     ensures kept { vec_capacity hands.old ≤ vec_capacity hands.new }
 {
     sources.reserve(1)?;
     // For all places of the table, so that the hands grow as seldom as it does.
-    let Some(tasks) = most_tasks(sources.capacity(), places) else {
+    let Some(tasks) = most_tasks(sources.capacity(), others) else {
         return Err(OutOfMemory);
     };
     hands.reserve(tasks)?;
     Ok(())
 }
 
-/// Reserves what one future's place more needs, in `hands`. Answers how many places there are with it.
+/// Reserves what one other task more needs, in `hands`.
 pub(crate) fn make_place(
     sources: usize,
-    places: usize,
+    others: usize,
     hands: &mut Vec<u64>,
-) -> Result<usize, OutOfMemory>
-    ensures places { IfOk result (λ more. more ≡ places + 1) }
+) -> Result<(), OutOfMemory>
     ensures hands { hands.new.items ≡ hands.old.items }
-    ensures tasks { OnOk result (vec_len hands.new + (2 * sources + (places + 1)) ≤ vec_capacity hands.new) }
+    ensures tasks { OnOk result (vec_len hands.new + (2 * sources + (others + 1)) ≤ vec_capacity hands.new) }
     ensures kept { vec_capacity hands.old ≤ vec_capacity hands.new }
 {
-    let Some(more) = places.checked_add(1) else {
+    let Some(more) = others.checked_add(1) else {
         return Err(OutOfMemory);
     };
     let Some(tasks) = most_tasks(sources, more) else {
         return Err(OutOfMemory);
     };
     hands.reserve(tasks)?;
-    Ok(more)
+    Ok(())
 }
 
 /// Puts a source into the table, under a key that has none.

@@ -1,4 +1,5 @@
-//! Worked tables of the reactor, of handles of its sources and of what waits for them, as tests over public calls.
+//! Worked tables of timers, of the reactor, of handles of its sources and of what waits for them, as tests over public
+//! calls.
 //!
 //! They stand apart from the crates below, so that these are proved once, and from `bus_tables`, so that a change of
 //! the conversation proves none of them again. Nothing stands on this crate.
@@ -8,3 +9,5 @@
 mod polled;
 #[cfg(test)]
 mod reactor;
+#[cfg(test)]
+mod timers;

@@ -1,5 +1,6 @@
 -- Live timers by rising number: where a number has its place, and what stands there.
-use Rattle.std.proofs.Common.{◌≡◌, ℕ, zero, suc, ◌<◌, ◌≤◌, true, false, List, [], ◌∷◌, Some, None, length, get_or, refl, ap, sym, ◌∙◌, inl, inr, arith}
+use Rattle.std.proofs.Common.{◌≡◌, ℕ, zero, suc, ◌<◌, ◌≤◌, true, false, List, [], ◌∷◌, Some, None, length, get_or, refl}
+use Rattle.std.proofs.Common.{ap, sym, ◌∙◌, inl, inr, arith}
 use Rattle.std.specs.Prelude.{nat_lt, ◌==◌, insert, remove}
 use Rattle.std.specs.List.{AllByRecursion}
 use Rattle.std.specs.List.Sorted.{IsPartitionPoint, IsNonDecreasingBy}
@@ -19,7 +20,9 @@ rises-non_decreasing (x ∷ xs) r zero (suc j) d le lt =
 rises-non_decreasing (x ∷ xs) r (suc i) zero d le lt = absurd (omega arith)
 rises-non_decreasing (x ∷ xs) r (suc i) (suc j) d le lt = rises-non_decreasing xs r.1 i j d (omega arith) (omega arith)
 
-pub place-is : (n : ℕ) (xs : List LiveTimer) (i : ℕ) → i ≤ length xs → IsPartitionPoint (λ (x : LiveTimer). nat_lt x.number n ≡ true) (λ (x : LiveTimer). nat_lt x.number n ≡ false) xs i → i ≡ place n xs
+pub place-is : (n : ℕ) (xs : List LiveTimer) (i : ℕ) → i ≤ length xs →
+    IsPartitionPoint (λ (x : LiveTimer). nat_lt x.number n ≡ true) (λ (x : LiveTimer). nat_lt x.number n ≡ false) xs i →
+    i ≡ place n xs
 place-is n [] i le h = omega arith
 place-is n (x ∷ xs) zero le h = rw (h.1 0 x (omega arith) (omega arith)) refl
 place-is n (x ∷ xs) (suc i) le h =
@@ -28,19 +31,22 @@ place-is n (x ∷ xs) (suc i) le h =
       λ k d lo hi. h.1 (suc k) d (omega arith) (omega arith),
     )))
 
-above : (n m : ℕ) (xs : List LiveTimer) → n ≤ m → AllByRecursion (λ y. m < y.number) xs → AllByRecursion (λ y. n < y.number) xs
+pub above : (n m : ℕ) (xs : List LiveTimer) → n ≤ m → AllByRecursion (λ y. m < y.number) xs →
+    AllByRecursion (λ y. n < y.number) xs
 above n m [] le h = tt
 above n m (x ∷ xs) le h = (omega arith, above n m xs le h.1)
 
 -- below all numbers of a list no timer of it is found
-pub absent : (w n : ℕ) (xs : List LiveTimer) → AllByRecursion (λ y. n < y.number) xs → (task_at w n xs ≡ None) × (without w n xs ≡ xs)
+pub absent : (w n : ℕ) (xs : List LiveTimer) → AllByRecursion (λ y. n < y.number) xs →
+    (task_at w n xs ≡ None) × (without w n xs ≡ xs)
 absent w n [] h = (refl, refl)
 absent w n (x ∷ xs) h =
     let ne : (x.number == n) ≡ false = ne_eqb x.number n (λ e. omega (arith, e, h.0)) in
     let rest = absent w n xs h.1 in
     rw ne (rest.0, ap (λ (l : List LiveTimer). x ∷ l) rest.1)
 
-pub absent_past : (w n : ℕ) (xs : List LiveTimer) → length xs ≤ place n xs → (task_at w n xs ≡ None) × (without w n xs ≡ xs)
+pub absent_past : (w n : ℕ) (xs : List LiveTimer) → length xs ≤ place n xs →
+    (task_at w n xs ≡ None) × (without w n xs ≡ xs)
 absent_past w n [] lt = (refl, refl)
 absent_past w n (y ∷ ys) lt =
     elim (cases_lt y.number n) [
@@ -55,7 +61,8 @@ absent_past w n (y ∷ ys) lt =
     ]
 
 -- the timer at the number's place has the number and the moment
-pub found : (w n : ℕ) (xs : List LiveTimer) (x : LiveTimer) → Rises xs → place n xs < length xs → x ≡ get_or xs (place n xs) x → x.number ≡ n → x.when ≡ w →
+pub found : (w n : ℕ) (xs : List LiveTimer) (x : LiveTimer) → Rises xs → place n xs < length xs →
+    x ≡ get_or xs (place n xs) x → x.number ≡ n → x.when ≡ w →
     (task_at w n xs ≡ Some x.task) × (without w n xs ≡ remove xs (place n xs))
 found w n [] x r lt e num mom = absurd (omega arith)
 found w n (y ∷ ys) x r lt e num mom =
@@ -76,7 +83,8 @@ found w n (y ∷ ys) x r lt e num mom =
     ]
 
 -- the timer at the number's place has another number or another moment
-pub not_found : (w n : ℕ) (xs : List LiveTimer) (x : LiveTimer) → Rises xs → place n xs < length xs → x ≡ get_or xs (place n xs) x → is_at w n x ≡ false →
+pub not_found : (w n : ℕ) (xs : List LiveTimer) (x : LiveTimer) → Rises xs → place n xs < length xs →
+    x ≡ get_or xs (place n xs) x → is_at w n x ≡ false →
     (task_at w n xs ≡ None) × (without w n xs ≡ xs)
 not_found w n [] x r lt e other = absurd (omega arith)
 not_found w n (y ∷ ys) x r lt e other =
@@ -96,7 +104,8 @@ not_found w n (y ∷ ys) x r lt e other =
     ]
 
 -- a timer has the number
-pub added-none : (t : LiveTimer) (xs : List LiveTimer) (x : LiveTimer) → place t.number xs < length xs → x ≡ get_or xs (place t.number xs) x → x.number ≡ t.number → xs ≡ added t xs
+pub added-none : (t : LiveTimer) (xs : List LiveTimer) (x : LiveTimer) → place t.number xs < length xs →
+    x ≡ get_or xs (place t.number xs) x → x.number ≡ t.number → xs ≡ added t xs
 added-none t [] x lt e num = absurd (omega arith)
 added-none t (y ∷ ys) x lt e num =
     elim (cases_lt y.number t.number) [
@@ -113,7 +122,9 @@ added-none t (y ∷ ys) x lt e num =
     ]
 
 -- no timer has the number
-pub added-new : (t : LiveTimer) (xs : List LiveTimer) → ((x : LiveTimer) → place t.number xs < length xs → x ≡ get_or xs (place t.number xs) x → x.number ≡ t.number → ⊥) → insert xs (place t.number xs) t ≡ added t xs
+pub added-new : (t : LiveTimer) (xs : List LiveTimer) →
+    ((x : LiveTimer) → place t.number xs < length xs → x ≡ get_or xs (place t.number xs) x → x.number ≡ t.number → ⊥) →
+    insert xs (place t.number xs) t ≡ added t xs
 added-new t [] new = refl
 added-new t (y ∷ ys) new =
     elim (cases_lt y.number t.number) [
@@ -132,7 +143,8 @@ added-new t (y ∷ ys) new =
 pub past-nowhere : (w n : ℕ) (xs : List LiveTimer) (at : ℕ) → at ≡ place n xs → length xs ≤ at → IsNowhere w n xs
 past-nowhere w n xs at p le = let a = absent_past w n xs (omega (arith, p, le)) in record { task = a.0; left = a.1 }
 
-pub other-nowhere : (w n : ℕ) (xs : List LiveTimer) (at : ℕ) (d : LiveTimer) → Rises xs → at ≡ place n xs → at < length xs → is_at w n (get_or xs at d) ≡ false → IsNowhere w n xs
+pub other-nowhere : (w n : ℕ) (xs : List LiveTimer) (at : ℕ) (d : LiveTimer) → Rises xs → at ≡ place n xs →
+    at < length xs → is_at w n (get_or xs at d) ≡ false → IsNowhere w n xs
 other-nowhere w n xs at d r p lt other =
     let a = not_found w n xs (get_or xs at d) r (omega (arith, p, lt)) (get_or_default xs at d (get_or xs at d) lt ∙ ap (λ k. get_or xs k (get_or xs at d)) p) other in
     record { task = a.0; left = a.1 }
@@ -143,7 +155,8 @@ other_number w n x other = and_left (x.number == n) (x.when == w) (ne_eqb x.numb
 pub other_moment : (w n : ℕ) (x : LiveTimer) → (x.when ≡ w → ⊥) → is_at w n x ≡ false
 other_moment w n x other = and_right (x.number == n) (x.when == w) (ne_eqb x.when w other)
 
-pub here-stands : (w n : ℕ) (xs : List LiveTimer) (at : ℕ) (d : LiveTimer) → Rises xs → at ≡ place n xs → at < length xs → (get_or xs at d).number ≡ n → (get_or xs at d).when ≡ w → StandsAt w n xs at
+pub here-stands : (w n : ℕ) (xs : List LiveTimer) (at : ℕ) (d : LiveTimer) → Rises xs → at ≡ place n xs →
+    at < length xs → (get_or xs at d).number ≡ n → (get_or xs at d).when ≡ w → StandsAt w n xs at
 here-stands w n xs at d r p lt num mom =
     let a = found w n xs (get_or xs at d) r (omega (arith, p, lt)) (get_or_default xs at d (get_or xs at d) lt ∙ ap (λ k. get_or xs k (get_or xs at d)) p) num mom in
     record {
@@ -152,10 +165,12 @@ here-stands w n xs at d r p lt num mom =
       left = a.1 ∙ ap (remove xs) (sym p);
     }
 
-pub there-added : (t : LiveTimer) (xs : List LiveTimer) (at : ℕ) (d : LiveTimer) → at ≡ place t.number xs → at < length xs → (get_or xs at d).number ≡ t.number → xs ≡ added t xs
+pub there-added : (t : LiveTimer) (xs : List LiveTimer) (at : ℕ) (d : LiveTimer) → at ≡ place t.number xs →
+    at < length xs → (get_or xs at d).number ≡ t.number → xs ≡ added t xs
 there-added t xs at d p lt num =
     added-none t xs (get_or xs at d) (omega (arith, p, lt)) (get_or_default xs at d (get_or xs at d) lt ∙ ap (λ k. get_or xs k (get_or xs at d)) p) num
 
-pub new-added : (t : LiveTimer) (xs : List LiveTimer) (at : ℕ) → at ≡ place t.number xs → ((d : LiveTimer) → at < length xs → (get_or xs at d).number ≡ t.number → ⊥) → insert xs at t ≡ added t xs
+pub new-added : (t : LiveTimer) (xs : List LiveTimer) (at : ℕ) → at ≡ place t.number xs →
+    ((d : LiveTimer) → at < length xs → (get_or xs at d).number ≡ t.number → ⊥) → insert xs at t ≡ added t xs
 new-added t xs at p new =
     ap (λ k. insert xs k t) p ∙ added-new t xs (λ x lt e num. new x (omega (arith, p, lt)) (ap (λ k. (get_or xs k x).number) p ∙ sym (ap (λ (z : LiveTimer). z.number) e) ∙ num))

@@ -1,5 +1,6 @@
 -- Live timers, by rising number, and what operations and passes do to them.
-use Rattle.std.specs.Prelude.{◌≡◌, ◌+◌, ◌<◌, ◌≤◌, ℕ, Bool, not, false, ◌&&◌, ◌||◌, nat_lt, nat_le, ◌==◌, if◌then◌else◌, List, [], ◌∷◌, Option, Some, None, filter, map, min, All, Any}
+use Rattle.std.specs.Prelude.{◌≡◌, ◌+◌, ◌<◌, ◌≤◌, ℕ, Bool, not, false, ◌&&◌, ◌||◌, nat_lt, nat_le, ◌==◌, if◌then◌else◌}
+use Rattle.std.specs.Prelude.{List, [], ◌∷◌, Option, Some, None, filter, map, min, All, Any}
 use Rattle.std.specs.List.{AllByRecursion}
 use Rattle.react_timers.specs.declared.timer.LiveTimer.{LiveTimer}
 use Rattle.react_timers.specs.declared.timer.TimerOp.{TimerOp}
@@ -13,7 +14,8 @@ Rises (x ∷ xs) = AllByRecursion (λ y. x.number < y.number) xs × Rises xs
 -- with the timer at the place of its number, unless one has that number
 abbrev pub added : LiveTimer → List LiveTimer → List LiveTimer
 added t [] = t ∷ []
-added t (x ∷ xs) = if nat_lt x.number t.number then x ∷ added t xs else (if x.number == t.number then x ∷ xs else t ∷ x ∷ xs)
+added t (x ∷ xs) =
+    if nat_lt x.number t.number then x ∷ added t xs else (if x.number == t.number then x ∷ xs else t ∷ x ∷ xs)
 
 -- whether it is the timer with this number and this moment
 abbrev pub is_at : ℕ → ℕ → LiveTimer → Bool

@@ -1,5 +1,6 @@
 -- Where a number has its place among live timers.
-use Rattle.std.specs.Prelude.{◌≡◌, ◌<◌, ℕ, suc, nat_lt, if◌then◌else◌, List, [], ◌∷◌, None, Some, length, remove, slice_index_or}
+use Rattle.std.specs.Prelude.{◌≡◌, ◌<◌, ℕ, suc, nat_lt, if◌then◌else◌, List, [], ◌∷◌, None, Some, length, remove}
+use Rattle.std.specs.Prelude.{slice_index_or}
 use Rattle.react_timers.specs.declared.timer.LiveTimer.{LiveTimer}
 use Rattle.react_timers.specs.Live.{task_at, without}
 

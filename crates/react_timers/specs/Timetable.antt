@@ -12,4 +12,5 @@ pub record Timetable : Type 0 where
 
 -- the memory that no queued insertion waits for
 abbrev pub room_in : (entry_places entry_len live_places live_len waiting : ℕ) → ℕ
-room_in entry_places entry_len live_places live_len waiting = min (entry_places - entry_len) (live_places - live_len) - waiting
+room_in entry_places entry_len live_places live_len waiting =
+    min (entry_places - entry_len) (live_places - live_len) - waiting

@@ -1,6 +1,7 @@
 //! The heap of moments and numbers.
-ghost use Rattle.std.specs.Prelude.{◌≡◌, ◌+◌, ◌≤◌, ◌<◌, ◌∷◌, [], false, length, vec_capacity, map, All, OnOk, MatchOption, IfNone, IsPermutation, Contains};
-ghost use Rattle.react_timers.specs.Heaped.{is_sooner, Pops};
+ghost use Rattle.std.specs.Prelude.{◌≡◌, ◌+◌, ◌≤◌, ◌<◌, ◌∷◌, [], length, vec_capacity, map, All, OnOk, MatchOption};
+ghost use Rattle.std.specs.Prelude.{IfNone, IsPermutation};
+ghost use Rattle.react_timers.specs.Heaped.{IsSoonest, NoneDue, Pops, PopsDue};
 ghost use Rattle.react_timers.specs.Held.{entry_of};
 
 use crate::entry::Entry;
@@ -48,7 +49,7 @@ impl Entries {
         self.items.capacity()
     }
 
-    /// Makes room for so many entries more.
+    /// Makes room for so many entries more. The entries stay.
     pub(crate) fn reserve(&mut self, additional: usize) -> Result<(), AllocError>
         ensures items { self.new.items ≡ self.old.items }
         ensures places { self.old.places ≤ self.new.places }
@@ -85,9 +86,9 @@ impl Entries {
         order(&mut self.items);
     }
 
-    /// The soonest entry.
+    /// The soonest entry, by moment, then number.
     pub(crate) fn soonest(&self) -> Option<Entry>
-        ensures { MatchOption result (self.now.items ≡ []) (λ e. Contains self.now.items e × All (λ x. is_sooner x e ≡ false) self.now.items) }
+        ensures { MatchOption result (self.now.items ≡ []) (λ e. IsSoonest e self.now.items) }
     {
         if self.items.is_empty() {
             return None;
@@ -110,9 +111,9 @@ impl Entries {
         Some(entry)
     }
 
-    /// Takes the soonest entry out, where its moment is at most `now`.
+    /// Takes the soonest entry out, where its moment is at most `now` nanoseconds.
     pub(crate) fn pop_due(&mut self, now: u64) -> Option<Entry>
-        ensures popped { MatchOption result (All (λ x. now < x.when) self.new.items) (λ e. (e.when ≤ now) × Pops self.old.items e self.new.items) }
+        ensures popped { MatchOption result (NoneDue now self.new.items) (PopsDue now self.old.items self.new.items) }
         ensures none { IfNone result (self.new.items ≡ self.old.items) }
         ensures places { self.new.places ≡ self.old.places }
     {

@@ -1,7 +1,7 @@
 //! An entry of the heap.
 ghost use Rattle.std.specs.Prelude.{◌≡◌};
 
-/// A timer's moment and number.
+/// A timer's moment in nanoseconds, and its number.
 #[derive(Clone, Copy, Debug, PartialEq, Eq)]
 pub(crate) struct Entry {
     pub(crate) when: u64,

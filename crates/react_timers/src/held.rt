@@ -1,15 +1,15 @@
 //! The heap beside the live timers: operations, due timers and the nearest one.
 ghost use Rattle.std.specs.Prelude.{◌≡◌, ◌+◌, ◌-◌, ◌*◌, ◌≤◌, ◌<◌, ◌++◌, [], length, MatchOption, vec_len, vec_capacity};
-ghost use Rattle.react_timers.specs.Heaped.{Pops};
 ghost use Rattle.react_timers.specs.Held.{Held};
-ghost use Rattle.react_timers.specs.Live.{applied, applied_all, due, later, tasks, insertions, insertions_of, nearest_moment, IsNearest};
+ghost use Rattle.react_timers.specs.Live.{applied, applied_all, due, later, tasks, insertions, insertions_of};
+ghost use Rattle.react_timers.specs.Live.{nearest_moment, IsNearest};
 
 use crate::entries::Entries;
 use crate::entry::Entry;
 use crate::live::{find, put_in, take_out};
 use crate::timer::{LiveTimer, TimerOp};
 
-/// So many stale entries stand beside any number of live timers.
+/// How many entries the heap may have beside two for each live timer.
 const SPARE: usize = 1000;
 
 /// Applies one operation, in reserved room.
@@ -53,7 +53,7 @@ pub(crate) fn apply_all(entries: &mut Entries, live: &mut Vec<LiveTimer>, queue:
     }
 }
 
-/// Rebuilds the heap where it has too many stale entries.
+/// Rebuilds the heap where it has too many stale entries. The timers stay.
 pub(crate) fn trim(entries: &mut Entries, live: &[LiveTimer])
     requires held { Held entries.old.items live.now }
     requires room { length entries.old.items ≤ entries.old.places }
@@ -67,7 +67,7 @@ pub(crate) fn trim(entries: &mut Entries, live: &[LiveTimer])
     }
 }
 
-/// Moves the tasks of all timers that are due into the hands, in reserved room.
+/// Moves the tasks of the timers that are due at `now` nanoseconds into the hands, in reserved room.
 pub(crate) fn take_due(
     entries: &mut Entries,
     live: &mut Vec<LiveTimer>,
@@ -93,7 +93,7 @@ pub(crate) fn take_due(
     }
 }
 
-/// The least moment of a live timer. Stale entries on the way are dropped.
+/// The least moment of a live timer, in nanoseconds. Stale entries on the way are dropped, the timers stay.
 pub(crate) fn nearest(entries: &mut Entries, live: &[LiveTimer]) -> Option<u64>
     requires held { Held entries.old.items live.now }
     ensures moment { result ≡ nearest_moment live.now }

@@ -1,6 +1,8 @@
 //! The live timers, in the order of their numbers.
-ghost use Rattle.std.specs.Prelude.{◌≡◌, ◌+◌, ◌≤◌, ◌<◌, ◌≢◌, ◌∷◌, [], false, length, All, OnOk, OnErr, MatchOption, IfSome, IsTrue, ◌↔◌, is_some, if◌then◌else◌, option_to_list, vec_len, vec_capacity, slice_index_or};
-ghost use Rattle.react_timers.specs.Live.{Rises, added, without, task_at, insertions_of};
+ghost use Rattle.std.specs.Prelude.{◌≡◌, ◌+◌, ◌≤◌, ◌<◌, false, length, MatchOption, if◌then◌else◌, option_to_list};
+ghost use Rattle.std.specs.Prelude.{vec_len, vec_capacity};
+ghost use Rattle.react_timers.specs.Live.{Rises, added, without, task_at};
+ghost use Rattle.react_timers.specs.Moments.{moment_of};
 ghost use Rattle.react_timers.specs.Places.{place, IsNowhere, StandsAt};
 
 use crate::timer::LiveTimer;
@@ -39,6 +41,19 @@ pub(crate) fn find(live: &[LiveTimer], when: u64, number: u64) -> Option<u64>
     match position(live, when, number) {
         Some(at) => Some(live[at].task),
         None => None,
+    }
+}
+
+/// The moment of the timer with this number.
+pub(crate) fn moment_of(live: &[LiveTimer], number: u64) -> Option<u64>
+    requires { Rises live.now }
+    ensures { result ≡ moment_of number live.now }
+{
+    let at = place_of(live, number);
+    if at < live.len() && live[at].number == number {
+        Some(live[at].when)
+    } else {
+        None
     }
 }
 

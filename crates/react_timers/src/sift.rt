@@ -1,6 +1,6 @@
 //! Steps that bring a heap in order.
-ghost use Rattle.std.specs.Prelude.{◌≡◌, ◌+◌, ◌*◌, ◌≤◌, ◌<◌, ℕ, IsPermutation, length, vec_len, vec_capacity};
-ghost use Rattle.react_timers.specs.Ordered.{IsChild, KeepsBelow, IsOrdered, IsOrderedAbove, IsOrderedBelow};
+ghost use Rattle.std.specs.Prelude.{◌≡◌, ◌+◌, ◌*◌, ◌<◌, ℕ, IsPermutation, length, vec_len, vec_capacity};
+ghost use Rattle.react_timers.specs.Ordered.{IsChild, KeepsBelow, IsOrdered, IsOrderedAbove};
 
 use crate::entry::Entry;
 

@@ -1,7 +1,7 @@
 //! A timer, and the operations on timers.
 ghost use Rattle.std.specs.Prelude.{◌≡◌};
 
-/// A live timer: its number, its moment and the task that it wakes.
+/// A live timer: its number, its moment in nanoseconds, and the task that it wakes.
 #[derive(Clone, Copy, Debug, PartialEq, Eq)]
 pub struct LiveTimer {
     pub number: u64,
@@ -9,10 +9,12 @@ pub struct LiveTimer {
     pub task: u64,
 }
 
-/// An operation on the timers, which waits in a queue.
+/// An operation on the timers, which waits in a queue. Its moment is in nanoseconds.
 #[derive(Clone, Copy, Debug, PartialEq, Eq)]
 pub enum TimerOp {
+    /// Adds a timer, unless one has its number.
     Insert { when: u64, number: u64, task: u64 },
+    /// Takes out the timer with this number, where this is its moment.
     Remove { when: u64, number: u64 },
 }
 

@@ -1,23 +1,25 @@
 //! The timers and their queue.
-ghost use Rattle.std.specs.Prelude.{◌≡◌, ◌+◌, ◌*◌, ◌≤◌, ◌<◌, ◌++◌, ◌∷◌, ◌↔◌, [], length, nat_lt, IfOk, OnOk, IsSome, MatchOption, option_to_list, vec_len, vec_capacity};
-ghost use Rattle.react_timers.specs.Live.{Rises, applied, applied_all, due, later, tasks, insertions, insertions_of, nearest_moment, IsNearest};
+ghost use Rattle.std.specs.Prelude.{◌≡◌, ◌+◌, ◌*◌, ◌≤◌, ◌<◌, ◌++◌, ◌∷◌, ◌↔◌, [], length, nat_lt, IfOk, OnOk, IsSome};
+ghost use Rattle.std.specs.Prelude.{IsTrue, MatchOption, option_to_list, vec_len, vec_capacity};
+ghost use Rattle.react_timers.specs.Live.{Rises, applied, applied_all, due, later, tasks, insertions, insertions_of};
+ghost use Rattle.react_timers.specs.Live.{nearest_moment, IsNearest};
 
 use crate::entries::Entries;
-use crate::held;
 use crate::timer::{LiveTimer, TimerOp};
+use crate::{held, moments};
 use std::alloc::{AllocError, Global};
 use std::marker::Model;
 
 /// How many operations the queue holds.
 pub const QUEUE: usize = 1000;
 
-/// Timers: a heap of moments beside the live timers by rising number, and a queue of operations.
+/// Timers: a heap of moments in nanoseconds beside the live timers by rising number, and a queue of operations.
 #[derive(Drop)]
 pub struct Timers {
     entries: Entries,
     live: Vec<LiveTimer>,
     queue: Vec<TimerOp>,
-    // how many operations of the queue are insertions
+    /// How many operations of the queue are insertions.
     awaited: usize,
 }
 
@@ -33,7 +35,8 @@ impl Model for Timers {
       live = t.live.items;
       queue = t.queue.items;
       entries = length t.entries.items;
-      room = room_in t.entries.places (length t.entries.items) (vec_capacity t.live) (vec_len t.live) (insertions t.queue.items);
+      room = room_in t.entries.places (length t.entries.items) (vec_capacity t.live) (vec_len t.live)
+          (insertions t.queue.items);
     } };
 
     ghost invariant = { λ t. record {
@@ -80,6 +83,13 @@ impl Timers {
         self.awaited
     }
 
+    /// Whether no timer is left once the queue is applied. It is not applied, and no memory is taken.
+    pub fn is_empty_applied(&self) -> bool
+        ensures { IsTrue result ↔ (applied_all self.now.live self.now.queue ≡ []) }
+    {
+        moments::is_empty_after(&self.live, &self.queue)
+    }
+
     /// How many entries the heap has, stale ones too.
     pub fn entries(&self) -> usize
         ensures { result ≡ self.now.entries }
@@ -87,7 +97,7 @@ impl Timers {
         self.entries.len()
     }
 
-    /// How many timers are live.
+    /// How many timers are live. Their numbers rise.
     pub fn live(&self) -> usize
         ensures live { result ≡ length self.now.live }
         ensures rises { Rises self.now.live }
@@ -96,7 +106,7 @@ impl Timers {
         self.live.len()
     }
 
-    /// Makes room for so many insertions more than the queue has.
+    /// Makes room for so many insertions more than the queue has. Timers and queue stay, also where there is no memory.
     pub fn reserve(&mut self, additional: usize) -> Result<(), AllocError>
         ensures live { self.new.live ≡ self.old.live }
         ensures queue { self.new.queue ≡ self.old.queue }
@@ -111,7 +121,7 @@ impl Timers {
         self.live.reserve(all)
     }
 
-    /// Queues an operation, without memory.
+    /// Queues an operation as the last one, without memory. The timers stay.
     #[tactic(auto, using(crate::proofs::Covers::queue_steps))]
     pub fn push(&mut self, op: TimerOp)
         requires place { length self.old.queue < 1000 }
@@ -126,7 +136,7 @@ impl Timers {
         self.queue.push_reserved(op);
     }
 
-    /// Takes the last operation back out of the queue.
+    /// Takes the last operation back out of the queue. The timers stay.
     #[tactic(auto, using(crate::proofs::Covers::queue_steps))]
     pub fn take_back(&mut self) -> Option<TimerOp>
         ensures live { self.new.live ≡ self.old.live }
@@ -141,7 +151,7 @@ impl Timers {
         Some(op)
     }
 
-    /// Goes through the queue in order and empties it, without memory.
+    /// Applies the queue in order and empties it, without memory.
     pub fn apply(&mut self)
         ensures live { self.new.live ≡ applied_all self.old.live self.old.queue }
         ensures queue { self.new.queue ≡ [] }
@@ -155,7 +165,7 @@ impl Timers {
         held::trim(&mut self.entries, &self.live);
     }
 
-    /// Applies one operation past the queue, without memory.
+    /// Applies one operation past the queue, without memory. The queue stays.
     pub fn apply_timer(&mut self, op: TimerOp)
         requires { insertions_of op ≤ self.old.room }
         ensures live { self.new.live ≡ applied self.old.live op }
@@ -168,8 +178,8 @@ impl Timers {
         held::trim(&mut self.entries, &self.live);
     }
 
-    /// Moves the tasks of the timers with a moment at most `now` into the hands, in the order of moment, then number,
-    /// and takes these timers out, without memory.
+    /// Moves the tasks of the timers with a moment of at most `now` nanoseconds behind those in the hands, in the order
+    /// of moment, then number, and takes these timers out, without memory. The queue stays.
     pub fn take_due(&mut self, now: u64, hands: &mut Vec<u64>)
         requires { vec_len hands.old + length self.old.live ≤ vec_capacity hands.old }
         ensures hands { hands.new.items ≡ hands.old.items ++ tasks (due now self.old.live) }
@@ -183,7 +193,7 @@ impl Timers {
         held::take_due(&mut self.entries, &mut self.live, now, hands);
     }
 
-    /// The least moment of a live timer. Stale entries on the way are dropped.
+    /// The least moment of a live timer, in nanoseconds. Stale entries on the way are dropped, timers and queue stay.
     pub fn nearest(&mut self) -> Option<u64>
         ensures moment { result ≡ nearest_moment self.old.live }
         ensures nearest { MatchOption result (self.old.live ≡ []) (λ when. IsNearest when self.old.live) }
@@ -195,7 +205,7 @@ impl Timers {
         held::nearest(&mut self.entries, &self.live)
     }
 
-    /// Takes out all timers and all queued operations.
+    /// Takes out all timers and all queued operations. Their memory stays.
     pub fn clear(&mut self)
         ensures live { self.new.live ≡ [] }
         ensures queue { self.new.queue ≡ [] }

@@ -14,6 +14,7 @@ loop-report-init g c = record {
   sources = refl;
   hands = refl;
   room = omega (arith, c.requires.room, waiting-bound (entries c.args.sources.now));
+  held = omega arith;
   dated = c.requires.dated;
   capacity = refl;
   armed = TriedSoFar-none _ _ _;
@@ -44,6 +45,7 @@ loop-report-preserved g c =
       sources = sources_step t s s' rs i d lt now.sources ∙ before.sources;
       hands = hands_step t s s' rs i d lt now.sources c.loop-report.hands.items c.take_report-armed.new.hands.items now.hands ∙ before.hands;
       room = omega (arith, taken, left, before.room, now.len, now.capacity);
+      held = omega (arith, taken, left, before.held, now.len);
       dated = rw now.sources (dated-report t s (get_or rs i d) before.dated);
       capacity = now.capacity ∙ before.capacity;
       armed = TriedSoFar-more _ _ _ (armings_by t s (get_or rs i d)) c.loop-report.answer _ _ _ _
@@ -64,3 +66,6 @@ returns-clause-len g c =
     sym (length-reports c.args.ticker (entries c.loop-report.sources) (drop c.loop-report.report-index c.args.reports.now))
     ∙ ap length c.loop-report.invariant.sources
     ∙ length-reports c.args.ticker (entries c.args.sources.now) c.args.reports.now
+
+pub returns-clause-room : goal.returns-clause-room
+returns-clause-room g c = omega (arith, waiting-bound (entries c.args.sources.now), c.loop-report.invariant.held)

@@ -14,6 +14,7 @@ invariant-loop-report g l = record {
   sources : after_reports l.ticker (entries l.sources) (drop l.report-index l.reports) ≡ after_reports l.ticker (entries l.fn.sources) l.reports;
   hands : l.hands.items ++ taken_by_all l.ticker (entries l.sources) (drop l.report-index l.reports) ≡ l.fn.hands.items ++ taken_by_all l.ticker (entries l.fn.sources) l.reports;
   room : vec_len l.hands + waiting (entries l.sources) ≤ vec_capacity l.hands;
+  held : vec_len l.hands + waiting (entries l.sources) ≤ vec_len l.fn.hands + waiting (entries l.fn.sources);
   dated : AllDated l.ticker (entries l.sources);
   capacity : vec_capacity l.hands ≡ vec_capacity l.fn.hands;
   armed : TriedSoFar (armings_by_all l.ticker (entries l.fn.sources) l.reports) (armings_by_all l.ticker (entries l.sources) (drop l.report-index l.reports))

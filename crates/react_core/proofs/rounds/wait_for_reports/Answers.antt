@@ -15,21 +15,21 @@ pub returns-in-Interrupted-clause-pause : goal.returns-in-Interrupted-clause-pau
 returns-in-Interrupted-clause-pause g c =
     pause-once c.args.timeout _ _ _ _ c.in_ok-wait.ensures.keeps.moment wait_answer.Interrupted _ _ (rw c.in-Interrupted.is at c.in_ok-wait.ensures.told) refl refl refl
 
-pub returns-in_err-_second-clause-pause : goal.returns-in_err-_second-clause-pause
-returns-in_err-_second-clause-pause g c =
-    let p = err_from_is_err_and c.from_residual-in_err-_second.result c.from_residual-in_err-_second.ensures.1 in
-    pause-unread c.args.timeout _ _ _ _ c.in_ok-wait.ensures.keeps.moment c.in-Reported.count _ _ c.wait.new.reports c.from_residual-in_err-_second.result
-    (rw c.in-Reported.is at c.in_ok-wait.ensures.told) c.in_err-_second.ensures.told c.in_err-_second.ensures.unread c.if-count-eq0.true
+pub returns-in_err-again-clause-pause : goal.returns-in_err-again-clause-pause
+returns-in_err-again-clause-pause g c =
+    let p = err_from_is_err_and c.from_residual-in_err-again.result c.from_residual-in_err-again.ensures.1 in
+    pause-unread c.args.timeout _ _ _ _ c.in_ok-wait.ensures.keeps.moment c.in-Reported.count _ _ c.wait.new.reports c.from_residual-in_err-again.result
+    (rw c.in-Reported.is at c.in_ok-wait.ensures.told) c.in_err-again.ensures.told c.in_err-again.ensures.unread c.if-count-eq0.true
     (sym c.may_pass.ensures ∙ c.if-may_pass.true) (p.1 ∙ ap Err p.2)
 
-pub returns-in_ok-_second-clause-pause : goal.returns-in_ok-_second-clause-pause
-returns-in_ok-_second-clause-pause g c =
-    pause-twice c.args.timeout _ _ _ _ c.in_ok-wait.ensures.keeps.moment (wait_answer.Reported (take c.in-Reported.count c.wait.new.reports)) _ c.in_ok-_second._second _ _ _
-    (rw c.in-Reported.is at c.in_ok-wait.ensures.told) c.in_ok-_second.ensures.told c.in_ok-_second.ensures.forward c.in_ok-_second.ensures.reading
+pub returns-then-may_pass-clause-pause : goal.returns-then-may_pass-clause-pause
+returns-then-may_pass-clause-pause g c =
+    pause-twice c.args.timeout _ _ _ _ c.in_ok-wait.ensures.keeps.moment (wait_answer.Reported (take c.in-Reported.count c.wait.new.reports)) _ c.in_ok-again.again _ _ _
+    (rw c.in-Reported.is at c.in_ok-wait.ensures.told) c.in_ok-again.ensures.told c.in_ok-again.ensures.forward c.in_ok-again.ensures.reading
     (quiet_none c.args.timeout _ _ true c.if-count-eq0.true (sym c.may_pass.ensures ∙ c.if-may_pass.true)) refl refl
 
-pub returns-else-count-eq0-clause-pause : goal.returns-else-count-eq0-clause-pause
-returns-else-count-eq0-clause-pause g c =
+pub returns-clause-pause : goal.returns-clause-pause
+returns-clause-pause g c =
     pause-once c.args.timeout _ _ _ _ c.in_ok-wait.ensures.keeps.moment (wait_answer.Reported (take c.in-Reported.count c.wait.new.reports)) _ _
     (rw c.in-Reported.is at c.in_ok-wait.ensures.told)
     (elim c.else-count-eq0.branch [

@@ -38,4 +38,5 @@ pub returns-clause-nearest : goal.returns-clause-nearest
 returns-clause-nearest c = covered-none _ _ c.in_default.ensures c.loop-entry.invariant.held.covered
 
 pub returns-clause-moment : goal.returns-clause-moment
-returns-clause-moment c = nearest_moment-is None _ (covered-none _ _ c.in_default.ensures c.loop-entry.invariant.held.covered)
+returns-clause-moment c =
+    nearest_moment-is None _ (covered-none _ _ c.in_default.ensures c.loop-entry.invariant.held.covered)

@@ -15,7 +15,9 @@ loop-at-preserved c =
     let j-lt : j < length xs = omega (arith, is) in
     let first = reads xs child j c.index.result.now c.index-in-loop-at.result.now is.1 j-lt c.index.ensures c.index-in-loop-at.ensures (sym c.if-not-is_sooner.ensures) in
     let within : vec_len c.loop-at.items ≡ length xs = grind (arith, common_steps) in
-    let below = sink-step xs c.swap.new.self.items _ j child (vec_len c.loop-at.items) before.low is.0 (omega (arith, within, is.1)) c.swap.ensures.by_index first (λ k ch in'. best k ch (omega (arith, within, in'))) before.below in
+    let lt : child < vec_len c.loop-at.items = omega (arith, within, is.1) in
+    let below =
+    sink-step xs c.swap.new.self.items _ j child (vec_len c.loop-at.items) before.low is.0 lt c.swap.ensures.by_index first (λ k ch in'. best k ch (omega (arith, within, in'))) before.below in
     record {
       low = omega (arith, before.low, is.0);
       below = rw c.swap.ensures.len below;

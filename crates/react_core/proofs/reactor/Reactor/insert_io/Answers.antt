@@ -22,7 +22,8 @@ returns-in_err-add-clause-told g c =
 
 pub invariant_of-self-2 : goal.invariant_of-self-2
 invariant_of-self-2 g c = record {
-  room = omega (arith, length-with_new_at, c.in_ok-make_room.ensures.tasks, ap length c.put_in.ensures.entries, ap length c.make_room.ensures.sources);
+  room = let others = rw (← c.self.view_is) at c.most_others-others.ensures in
+      omega (arith, others, c.self.invariant.places, length-with_new_at, c.in_ok-make_room.ensures.tasks, ap length c.put_in.ensures.entries, ap length c.make_room.ensures.sources);
   places = rw (c.put_in.ensures.entries, c.make_room.ensures.sources, c.new.ensures, places-new) c.self.invariant.places;
   dated = rw (c.put_in.ensures.entries, c.make_room.ensures.sources, c.new.ensures) (dated-new c.self.inside.ticker _ _ _ c.self.invariant.dated);
   numbered = c.self.invariant.numbered;

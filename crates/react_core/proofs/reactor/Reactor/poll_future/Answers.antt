@@ -131,8 +131,8 @@ returns-in-Some-held-clause-told g c =
     ∙ ap (told (g.R.Tells.outer c.args.registrar.now).events)
     (told-future core key dir s here c.side_mut-interest.result.now c.arming-arming.result c.side_mut-interest.ensures.value c.arming-arming.ensures c.in-Some-held.place c.in_ok-answer.answer))
 
-pub returns-in_err-places-clause-memory : goal.returns-in_err-places-clause-memory
-returns-in_err-places-clause-memory g c present =
+pub returns-in_err-make_place-clause-memory : goal.returns-in_err-make_place-clause-memory
+returns-in_err-make_place-clause-memory g c present =
     let s = c.in-Some.source.now in
     let key = c.args.key in
     let dir = c.args.dir in
@@ -153,8 +153,8 @@ returns-in_err-place-clause-memory g c present =
     let absent = ap (λ d. held_place d.futures c.args.place) (direction-at core key dir s here ∙ sym c.side_mut-interest.ensures.value) ∙ sym c.held.ensures ∙ c.in_default-held.is in
     absurd (let some = ap is_some (sym absent) ∙ (rw (← c.self.view_is) at present) in cc)
 
-pub returns-in_err-places-clause-refused : goal.returns-in_err-places-clause-refused
-returns-in_err-places-clause-refused g c =
+pub returns-in_err-make_place-clause-refused : goal.returns-in_err-make_place-clause-refused
+returns-in_err-make_place-clause-refused g c =
     let s = c.in-Some.source.now in
     let key = c.args.key in
     let dir = c.args.dir in
@@ -162,7 +162,7 @@ returns-in_err-places-clause-refused g c =
     let core = (the_view c.self.inside).core in
     let here = found-at c.self.inside.sources key s dir at in
     let absent = ap (λ d. held_place d.futures c.args.place) (direction-at core key dir s here ∙ sym c.side_mut-interest.ensures.value) ∙ sym c.held.ensures ∙ c.in_default-held.is in
-    let p = err_from_is_err_and c.from_residual-in_err-places.result c.from_residual-in_err-places.ensures.1 in
+    let p = err_from_is_err_and c.from_residual-in_err-make_place.result c.from_residual-in_err-make_place.ensures.1 in
     let none = held-none (direction_at core key dir).futures c.args.place absent in
     rw (← c.self.view_is, p.1, p.2, none) tt
 
@@ -212,8 +212,9 @@ invariant_of-self-2 g c =
     let more = length-with_future c.self.inside.ticker task c.side_mut-interest.result.now c.in_ok-place.place c.in_ok-place.ensures.free in
     let sources = length-entries table in
     record {
-      room = omega (arith, sources, c.len-sources.ensures, c.in_ok-places.ensures.places, c.in_ok-places.ensures.tasks, length-turned table key s dir at c.poll_first.new.self);
-      places = omega (arith, before, after, more, c.in_ok-places.ensures.places, places-turned table key s dir at c.poll_first.new.self, c.self.invariant.places);
+      room = let others = rw (← c.self.view_is) at c.most_others-others.ensures in
+          omega (arith, others, c.self.invariant.places, sources, c.len-sources.ensures, c.in_ok-make_place.ensures.tasks, length-turned table key s dir at c.poll_first.new.self);
+      places = omega (arith, before, after, more, places-turned table key s dir at c.poll_first.new.self, c.self.invariant.places);
       dated = dated-turned table key s dir at c.self.inside.ticker c.poll_first.new.self c.self.invariant.dated
           (rw (is, c.side_mut-interest.ensures.value) (dated-with_future c.self.inside.ticker task (side dir s) c.in_ok-place.place
           (dated-at table key s dir at c.self.inside.ticker c.self.invariant.dated)));

@@ -1,9 +1,11 @@
 use Rattle.std.proofs.Common.{◌∙◌, ap, Err, length, vec_len, arith}
 use Rattle.std.proofs.lemmas.Result.{err_from_is_err_and}
 use Rattle.react_core.specs.declared.reactor.Begun.{Begun}
+use Rattle.react_core.specs.declared.rounds.Came.{Came}
 use Rattle.react_core.specs.Core.{ReactorState}
 use Rattle.react_core.proofs.Courses.{UnlessExhausted-any, ran-unread, ran-read, RoundCounted-both, refused_alone}
 use Rattle.react_core.specs.Steps.{then-steps}
+use Rattle.react_core.specs.Timing.{wait_limit}
 use Rattle.react_core.proofs.reactor.Reactor.react.Goals as goal
 
 pub returns-in_err-first-clause-ran : goal.returns-in_err-first-clause-ran
@@ -21,14 +23,14 @@ returns-clause-ran g c =
     let waited = c.wait_for_reports-waited.ensures in
     let finished = c.finish_round-finished.ensures in
     UnlessExhausted-any c.first_refusal.result _
-    (ran-read g.W.Wakes.woke c.args.timeout _ _ _ _ _ _ _ _ _ c.in_ok-first.first _ _ _ _ _ _ c.split_at.result.0.now c.wait_for_reports-waited.result
+    (ran-read g.W.Wakes.woke c.args.timeout _ _ _ _ _ _ _ _ _ c.in_ok-first.first c.args.self.now _ _ _ _ _ c.split_at.result.0.now c.came_of-came.result.again c.wait_for_reports-waited.result
     c.finish_round-finished.result c.first_refusal.result
-    now.told now.forward now.reading (rw (← c.self-2.view_is) at c.in_ok-begun.ensures.step) (rw (ap (λ (b : Begun). b.timeout) c.in_ok-begun.ensures.begun) at waited.pause)
-    (rw (← c.count_of.ensures) c.split_at.ensures.front)
+    now.told now.forward now.reading (rw (← c.self-2.view_is, c.in_ok-begun.ensures.begun) at c.in_ok-begun.ensures.step) (rw (ap (λ (b : Begun). b.timeout) c.in_ok-begun.ensures.begun, ← c.came_of-came.ensures) at waited.pause)
+    c.split_at.ensures.front
     (omega (
       arith,
       c.split_at.ensures.front_len,
-      c.count_of.ensures,
+      ap (λ (came : Came). came.count) c.came_of-came.ensures,
       waited.within,
       ap length c.as_mut_slice-buffer.ensures.value,
       ap vec_len c.replace-reports.ensures.value,
@@ -41,7 +43,7 @@ pub returns-clause-cause : goal.returns-clause-cause
 returns-clause-cause g c =
     RoundCounted-both c.wait_for_reports-waited.result c.finish_round-finished.result c.first_refusal.result _ _ _
     (rw c.in_ok-first.ensures.keeps.poller at c.wait_for_reports-waited.ensures.cause) c.finish_round-finished.ensures.cause
-    (λ e is. refused_alone c.args.timeout _ _ _ _ _ _ _ _ c.split_at.result.0.now _ c.wait_for_reports-waited.result c.finish_round-finished.result e _ is
-    (rw (ap (λ (b : Begun). b.timeout) c.in_ok-begun.ensures.begun) at c.wait_for_reports-waited.ensures.pause)
-    (rw (← c.count_of.ensures) c.split_at.ensures.front) c.finish_round-finished.ensures.tried)
+    (λ e is. refused_alone (wait_limit c.args.self.now.core c.in_ok-first.first c.args.timeout) _ _ _ _ _ _ _ _ c.split_at.result.0.now _ c.came_of-came.result.again c.wait_for_reports-waited.result c.finish_round-finished.result e _ is
+    (rw (ap (λ (b : Begun). b.timeout) c.in_ok-begun.ensures.begun, ← c.came_of-came.ensures) at c.wait_for_reports-waited.ensures.pause)
+    c.split_at.ensures.front c.finish_round-finished.ensures.tried)
     c.first_refusal.ensures
