@@ -100,55 +100,6 @@ module _ {Origin : Type 0} where
 
 -- ---- no timer is made
 
-poll-made : (core : Core) (key : ℕ) (o : Option Source) (dir : Dir) (task : ℕ) (out : Outcome) → (after_source_poll core key o dir task out).made ≡ core.made
-poll-made core key None dir task out = refl
-poll-made core key (Some s) dir task Fires = refl
-poll-made core key (Some s) dir task Stays = refl
-poll-made core key (Some s) dir task (Begins tasks arms) = refl
-
-future-made : (core : Core) (key : ℕ) (o : Option Source) (dir : Dir) (place task : ℕ) →
-    (after_source_future core key o dir place task).made ≡ core.made
-future-made core key None dir place task = refl
-future-made core key (Some s) dir place task = go (is_fired (side dir s) place) where
-  go : (fired : Bool) →
-      (if fired then core else with_direction core key dir s (with_future core.ticker task (side dir s) place)).made
-      ≡ core.made
-  go true = refl
-  go false = refl
-
-cancel-made : (core : Core) (key : ℕ) (o : Option Source) (dir : Dir) (place : ℕ) →
-    (after_source_cancel core key o dir place).made ≡ core.made
-cancel-made core key None dir place = refl
-cancel-made core key (Some s) dir place = refl
-
-step-made : (old : Core) (kind : Kind) (answer : Answer) (woken : List ℕ) (new : Core) → Step old kind answer woken new → new.made ≡ old.made
-step-made old (PolledPoll key dir task) (Polled answer) woken new s = ap (λ c. c.made) s.core ∙ poll-made old key (source_of old.sources key) dir task (poll_outcome old key dir task)
-step-made old (Insert wire key) Done woken new s = ap (λ c. c.made) s.core
-step-made old (Remove key) Done woken new s = ap (λ c. c.made) s.core
-step-made old Begin Done woken new s = ap (λ c. c.made) s.core
-step-made old (Return reports) Done woken new s = ap (λ c. c.made) s.core
-step-made old (Finish reports) Done woken new s = ap (λ c. c.made) s.core
-step-made old (FuturePoll key dir place task) (Polled answer) woken new s =
-    ap (λ c. c.made) s.core ∙ future-made old key (source_of old.sources key) dir place task
-step-made old (Cancel key dir place) Done woken new s =
-    ap (λ c. c.made) s.core ∙ cancel-made old key (source_of old.sources key) dir place
-step-made old (PolledPoll key dir task) Done woken new s = absurd s
-step-made old (FuturePoll key dir place task) Done woken new s = absurd s
-step-made old (Cancel key dir place) (Polled answer) woken new s = absurd s
-step-made old (Insert wire key) (Polled answer) woken new s = absurd s
-step-made old (Remove key) (Polled answer) woken new s = absurd s
-step-made old Begin (Polled answer) woken new s = absurd s
-step-made old (Return reports) (Polled answer) woken new s = absurd s
-step-made old (Finish reports) (Polled answer) woken new s = absurd s
-
-steps-made : (old : Core) (kinds : List Kind) (new : Core) → Steps old kinds new → new.made ≡ old.made
-steps-made old [] new is = ap (λ c. c.made) is
-steps-made old (kind ∷ kinds) new (mid, answer, woken, s, rest) = steps-made mid kinds new rest ∙ step-made old kind answer woken mid s
-
--- the reactor's own calls make none
-pub core-steps-made : {old new : Core} → CoreSteps old new → new.made ≡ old.made
-core-steps-made {old} {new} s = steps-made old s.kinds new s.steps
-
 pub visit-made : {E : Type 0} (result : Result Slot E) (wire key : ℕ) (r0 r1 : Option (List Event)) (old new : Core) (c : Opening) (ts : Tags) →
     IfOk result (λ s. visited.MakesRegisteredVisit wire key r0 r1 old new c s) → OnErr result (KeepsCall ts r0 r1 old new) → new.made ≡ old.made
 visit-made (Ok s) wire key r0 r1 old new c ts (h, h', calls, o, x) refused = x.made

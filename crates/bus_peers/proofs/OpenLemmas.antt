@@ -25,7 +25,7 @@ use Rattle.bus_visit.specs.Counts.{waits_in}
 use Rattle.bus_peers.specs.inside.Closing.{closing}
 use Rattle.bus_visit.specs.Shown.{shown, tags}
 use Rattle.bus_peers.specs.Headline.{Opened, RefusedWith, OpenCounted, Completes}
-use Rattle.bus_peers.specs.inside.Rounds.{is_kept, EndsIn, AllEnd}
+use Rattle.bus_peers.specs.inside.Rounds.{is_kept, EndsIn, AllEnd, cleared}
 use Rattle.bus_peers.specs.inside.SlotFaults.{VisitsCounted}
 use Rattle.bus_peers.specs.inside.Slots.{Owned, AllBuilt, Stands, AllStand, CallStands, CallSettled, RefusedAt, Halts}
 use Rattle.bus_visit.specs.laws.Records.{waits_in-append}
@@ -82,9 +82,9 @@ ticker-gone : (old now new : ℕ) (a gone : List Event) → now ≡ old + waits_
     new ≡ old + waits_in (a ++ gone)
 ticker-gone old now new a gone is same none = omega (arith, waits_in-append a gone, none, is, same)
 
--- the core without its sources
+-- the core without its sources and timers
 abbrev pub emptied : ReactorState → ReactorState
-emptied r = record r { core = record r.core { sources = [] } }
+emptied r = record r { core = cleared r.core }
 
 -- each round that the record shows was begun
 ticks : {sessions : List Session} {rounds : ℕ} {pending : List ℕ} {begin : Core} {r0 r1 : Option (List Event)} {core : Core} {slots : List Slot} {past : Pieces} →

@@ -26,14 +26,16 @@ use Rattle.react_core.specs.declared.reactor.ReactError.TheVariants as react_err
 use Rattle.react_core.specs.declared.outside.Fault.{Fault}
 use Rattle.react_core.specs.declared.outside.Fault.TheVariants as fault
 use Rattle.react_core.specs.Told.{told, told-nothing, modify_told}
-use Rattle.react_core.specs.Core.{Core, ReactorState}
+use Rattle.react_core.specs.Core.{Core, ReactorState, timers_applied}
+use Rattle.react_core.specs.Timing.{wait_limit}
+use Rattle.react_core.specs.declared.reactor.Counter.TheVariants as counter
 use Rattle.react_core.specs.Sources.{source_of}
 use Rattle.react_core.specs.Sources as sources_of
 use Rattle.react_core.specs.Reports.{marked, without_task, reported, task_of, tasks_of, future_tasks, taken_of}
 use Rattle.react_core.specs.Reports.{taken_by, taken_by_all, after_report, after_report_of, after_reports}
 use Rattle.react_core.specs.Reports.{armings_by_of, armings_by, armings_by_all, armed_told, Try, tries_told}
 use Rattle.react_core.specs.Round.{reports_of, Ran, Course, CourseSteps, Pause, Unwaited, Waited, Reread, Unreread, Unread, Read, course_told, pause_reports, NumberedBy, OnExhausted, UnlessExhausted}
-use Rattle.react_core.specs.Step.{WokeAll, begun_round, finished_round}
+use Rattle.react_core.specs.Step.{WokeAll}
 use Rattle.bus_peers.specs.declared.rounds.Woken.{Woken}
 use Rattle.bus_peers.specs.declared.open.OpenError.{OpenError}
 use Rattle.bus_peers.specs.Headline.{open_error}
@@ -50,7 +52,7 @@ use Rattle.bus_record.specs.Failing.{Made}
 use Rattle.bus_peers.specs.inside.Failures.{IfPoller, RoundFailed}
 use Rattle.bus_peers.specs.inside.Slots.{Told, Refuses, RefusedAt}
 use Rattle.bus_visit.specs.Shown.{shown, side_of, place_side, Sane, SanePlace, SaneTask, SaneSource, AllSane, IsBetweenCalls, tags}
-use Rattle.bus_peers.proofs.Courses.{RoundCut, rounds-cut, Rounds, course-core}
+use Rattle.bus_peers.proofs.Courses.{RoundCut, rounds-cut, Rounds, course-core, after_round}
 use Rattle.bus_visit.specs.laws.Sources.{shown_at, held_at-shown, reported-shown, arming-shown, lone-marked, after_report-shown, after_reports-shown}
 use Rattle.bus_visit.specs.laws.Sanity.{sane-at, sane-with}
 use Rattle.bus_visit.specs.laws.Tags.{tags-after_reports}
@@ -425,6 +427,7 @@ rounded r0 r1 old new before after woken r round rests up none ordered =
             (sane-reports old.ticker old.sources reports sane);
         distinct = rw (after_reports-shown (old.ticker + 1) old.sources reports) (distinct-reports (map shown old.sources) reports rests.distinct);
         idle = refl;
+        timeless = refl;
         fits = rests.fits;
       });
       ticker = ap (λ c. c.ticker) round.core;
@@ -439,10 +442,16 @@ pub round-tags : {W : Type 0} (woke : W → ℕ → W → Type 0) (timeout : Opt
     tags new.sources ≡ tags old.sources
 round-tags woke timeout r0 r1 old new wakes wakes' r round = ap (λ c. tags c.sources) round.core ∙ tags-after_reports (old.ticker + 1) old.sources (reports_of r.answer)
 
-course_tags : (old new : Core) (course : Course) (tasks : List ℕ) → CourseSteps old course tasks new → tags new.sources ≡ tags old.sources
-course_tags old new Unread tasks steps = ap (λ c. tags c.sources) steps.core
-course_tags old new (Read first pause) tasks steps =
-    ap (λ c. tags c.sources) (course-core old new first pause tasks steps) ∙ tags-after_reports (old.ticker + 1) old.sources (pause_reports pause)
+course_tags : (old new : Core) (timeout : Option ℕ) (course : Course) (tasks : List ℕ) → timers_applied old ≡ [] → CourseSteps old timeout course tasks new →
+    tags new.sources ≡ tags old.sources
+course_tags old new timeout Unread tasks none steps = ap (λ c. tags c.sources) steps.core
+course_tags old new timeout (Read first pause) tasks none steps =
+    ap (λ c. tags c.sources) (course-core old new timeout first pause tasks none steps) ∙ tags-after_reports (old.ticker + 1) old.sources (pause_reports pause)
+
+course_made : (old new : Core) (timeout : Option ℕ) (course : Course) (tasks : List ℕ) → timers_applied old ≡ [] → CourseSteps old timeout course tasks new →
+    new.made ≡ old.made
+course_made old new timeout Unread tasks none steps = ap (λ c. c.made) steps.core
+course_made old new timeout (Read first pause) tasks none steps = ap (λ c. c.made) (course-core old new timeout first pause tasks none steps)
 
 -- what a refused round came to
 abbrev pub RanSo : Bool → Option (List Event) → Option (List Event) → ℕ → ℕ → ReactorState → ReactorState → Woken → Woken → ReactError → Type 0
@@ -452,15 +461,23 @@ abbrev pub Same : ReactorState → ReactorState → Option (List Event) → Opti
 Same old new r0 r1 wakes wakes' m0 m1 = (new ≡ old) × (wakes' ≡ wakes) × (r1 ≡ r0) × (m1 ≡ m0)
 
 ran_tags : {ample : Bool} (r0 r1 : Option (List Event)) (m0 m1 : ℕ) (old new : ReactorState) (wakes wakes' : Woken)
-    (e : ReactError) → RanSo ample r0 r1 m0 m1 old new wakes wakes' e → tags new.core.sources ≡ tags old.core.sources
-ran_tags r0 r1 m0 m1 old new wakes wakes' e (course, tries, ran) = course_tags old.core new.core course ran.tasks ran.steps
+    (e : ReactError) → timers_applied old.core ≡ [] → RanSo ample r0 r1 m0 m1 old new wakes wakes' e → tags new.core.sources ≡ tags old.core.sources
+ran_tags r0 r1 m0 m1 old new wakes wakes' e none (course, tries, ran) = course_tags old.core new.core None course ran.tasks none ran.steps
 
 pub refused-tags : (ample : Bool) (r0 r1 : Option (List Event)) (m0 m1 : ℕ) (old new : ReactorState) (wakes wakes' : Woken)
-    (e : ReactError) → UnlessExhausted {T = Unit {0}} (Err e) (RanSo ample r0 r1 m0 m1 old new wakes wakes' e) →
+    (e : ReactError) → timers_applied old.core ≡ [] → UnlessExhausted {T = Unit {0}} (Err e) (RanSo ample r0 r1 m0 m1 old new wakes wakes' e) →
     OnExhausted {T = Unit {0}} (Err e) (Same old new r0 r1 wakes wakes' m0 m1) → tags new.core.sources ≡ tags old.core.sources
-refused-tags ample r0 r1 m0 m1 old new wakes wakes' react_err.Poller ran same = ran_tags r0 r1 m0 m1 old new wakes wakes' react_err.Poller ran
-refused-tags ample r0 r1 m0 m1 old new wakes wakes' react_err.OutOfMemory ran same = ran_tags r0 r1 m0 m1 old new wakes wakes' react_err.OutOfMemory ran
-refused-tags ample r0 r1 m0 m1 old new wakes wakes' (react_err.Exhausted c value) ran same = ap (λ x. tags x.core.sources) same.0
+refused-tags ample r0 r1 m0 m1 old new wakes wakes' react_err.Poller none ran same = ran_tags r0 r1 m0 m1 old new wakes wakes' react_err.Poller none ran
+refused-tags ample r0 r1 m0 m1 old new wakes wakes' react_err.OutOfMemory none ran same = ran_tags r0 r1 m0 m1 old new wakes wakes' react_err.OutOfMemory none ran
+refused-tags ample r0 r1 m0 m1 old new wakes wakes' (react_err.Exhausted c value) none ran same = ap (λ x. tags x.core.sources) same.0
+
+-- a round that was refused made no timer
+pub refused-made : (ample : Bool) (r0 r1 : Option (List Event)) (m0 m1 : ℕ) (old new : ReactorState) (wakes wakes' : Woken)
+    (e : ReactError) → timers_applied old.core ≡ [] → UnlessExhausted {T = Unit {0}} (Err e) (RanSo ample r0 r1 m0 m1 old new wakes wakes' e) →
+    OnExhausted {T = Unit {0}} (Err e) (Same old new r0 r1 wakes wakes' m0 m1) → new.core.made ≡ old.core.made
+refused-made ample r0 r1 m0 m1 old new wakes wakes' react_err.Poller none (course, tries, ran) same = course_made old.core new.core None course ran.tasks none ran.steps
+refused-made ample r0 r1 m0 m1 old new wakes wakes' react_err.OutOfMemory none (course, tries, ran) same = course_made old.core new.core None course ran.tasks none ran.steps
+refused-made ample r0 r1 m0 m1 old new wakes wakes' (react_err.Exhausted c value) none ran same = ap (λ x. x.core.made) same.0
 
 -- an arming is no round
 modify_waits : (wire key : ℕ) (read write : Bool) (answer : Result (Unit {0}) Fault) → waits_in (modify_told wire key read write answer) ≡ 0
@@ -474,40 +491,47 @@ tries_waits (t ∷ tries) = waits_in-append (modify_told t.0.wire t.0.key t.0.re
     ∙ (ap (λ n. n + waits_in (tries_told tries)) (modify_waits t.0.wire t.0.key t.0.read t.0.write t.1) ∙ ap (λ n. 0 + n) (tries_waits tries))
 
 -- one Wait was told
-paused_waits : (first : ℕ) (pause : Pause) (tries : List Try) → waits_in (course_told None (Read first pause)) ≡ 1 → waits_in (course_told None (Read first pause) ++ tries_told tries) ≡ 1
-paused_waits first pause tries one = waits_in-append (course_told None (Read first pause)) (tries_told tries)
+paused_waits : (limit : ℕ → Option ℕ) (first : ℕ) (pause : Pause) (tries : List Try) → waits_in (course_told limit (Read first pause)) ≡ 1 →
+    waits_in (course_told limit (Read first pause) ++ tries_told tries) ≡ 1
+paused_waits limit first pause tries one = waits_in-append (course_told limit (Read first pause)) (tries_told tries)
     ∙ (ap (λ n. n + waits_in (tries_told tries)) one ∙ ap (λ n. 1 + n) (tries_waits tries))
+
+-- how long a round waits that begins there
+abbrev limit_of : ReactorState → ℕ → Option ℕ
+limit_of old first = wait_limit old.core first None
 
 paused_told : {ample : Bool} (r0 r1 : Option (List Event)) (m0 m1 : ℕ) (old new : ReactorState) (wakes wakes' : Woken) (first : ℕ)
     (pause : Pause) (tries : List Try) → Ran WokenBy None ample r0 r1 m0 m1 old new wakes wakes' (Err react_err.Poller)
     (Read first pause) tries →
-    new.core.hands ≡ None → waits_in (course_told None (Read first pause)) ≡ 1 → Told r0 r1 old.core new.core (course_told None (Read first pause) ++ tries_told tries)
-paused_told r0 r1 m0 m1 old new wakes wakes' first pause tries ran closed one =
-    let core : new.core ≡ finished_round (begun_round old.core) (pause_reports pause) = course-core old.core new.core first pause ran.tasks ran.steps in record {
+    timers_applied old.core ≡ [] →
+    new.core.hands ≡ None → waits_in (course_told (limit_of old) (Read first pause)) ≡ 1 → Told r0 r1 old.core new.core (course_told (limit_of old) (Read first pause) ++ tries_told tries)
+paused_told r0 r1 m0 m1 old new wakes wakes' first pause tries ran none closed one =
+    let core : new.core ≡ after_round old.core (pause_reports pause) = course-core old.core new.core None first pause ran.tasks none ran.steps in record {
       gained = ran.gained;
       made = ap (λ c. c.made) core;
       closed = closed;
-      ticker = ap (λ c. c.ticker) core ∙ ap (λ n. old.core.ticker + n) (sym (paused_waits first pause tries one));
+      ticker = ap (λ c. c.ticker) core ∙ ap (λ n. old.core.ticker + n) (sym (paused_waits (limit_of old) first pause tries one));
     }
 
 poller_told : {ample : Bool} (r0 r1 : Option (List Event)) (m0 m1 : ℕ) (old new : ReactorState) (wakes wakes' : Woken)
     (course : Course) (tries : List Try) → Ran WokenBy None ample r0 r1 m0 m1 old new wakes wakes' (Err react_err.Poller)
-    course tries → new.core.hands ≡ None →
-    Told r0 r1 old.core new.core (course_told None course ++ tries_told tries)
-poller_told r0 r1 m0 m1 old new wakes wakes' Unread tries ran closed = let e = ran.answers in absurd cc
-poller_told r0 r1 m0 m1 old new wakes wakes' (Read first Unwaited) tries ran closed = let e = ran.answers in absurd cc
-poller_told r0 r1 m0 m1 old new wakes wakes' (Read first (Waited answer)) tries ran closed = paused_told r0 r1 m0 m1 old new wakes wakes' first (Waited answer) tries ran closed refl
-poller_told r0 r1 m0 m1 old new wakes wakes' (Read first (Reread answer moment)) tries ran closed = paused_told r0 r1 m0 m1 old new wakes wakes' first (Reread answer moment) tries ran closed refl
-poller_told r0 r1 m0 m1 old new wakes wakes' (Read first (Unreread answer)) tries ran closed = paused_told r0 r1 m0 m1 old new wakes wakes' first (Unreread answer) tries ran closed refl
+    course tries → timers_applied old.core ≡ [] → new.core.hands ≡ None →
+    Told r0 r1 old.core new.core (course_told (limit_of old) course ++ tries_told tries)
+poller_told r0 r1 m0 m1 old new wakes wakes' Unread tries ran none closed = let e = ran.answers in absurd cc
+poller_told r0 r1 m0 m1 old new wakes wakes' (Read first Unwaited) tries ran none closed = let e = ran.answers in absurd cc
+poller_told r0 r1 m0 m1 old new wakes wakes' (Read first (Waited answer)) tries ran none closed = paused_told r0 r1 m0 m1 old new wakes wakes' first (Waited answer) tries ran none closed refl
+poller_told r0 r1 m0 m1 old new wakes wakes' (Read first (Reread answer moment)) tries ran none closed = paused_told r0 r1 m0 m1 old new wakes wakes' first (Reread answer moment) tries ran none closed refl
+poller_told r0 r1 m0 m1 old new wakes wakes' (Read first (Unreread answer)) tries ran none closed = paused_told r0 r1 m0 m1 old new wakes wakes' first (Unreread answer) tries ran none closed refl
 
 poller_refused : {ample : Bool} (r0 r1 : Option (List Event)) (m0 m1 : ℕ) (old new : ReactorState) (wakes wakes' : Woken) →
-    RanSo ample r0 r1 m0 m1 old new wakes wakes' react_err.Poller → new.core.hands ≡ None → (more : List Event) ×
+    RanSo ample r0 r1 m0 m1 old new wakes wakes' react_err.Poller → timers_applied old.core ≡ [] → new.core.hands ≡ None → (more : List Event) ×
     Told r0 r1 old.core new.core more
-poller_refused r0 r1 m0 m1 old new wakes wakes' (course, tries, ran) closed = (course_told None course ++ tries_told tries, poller_told r0 r1 m0 m1 old new wakes wakes' course tries ran closed)
+poller_refused r0 r1 m0 m1 old new wakes wakes' (course, tries, ran) none closed =
+    (course_told (limit_of old) course ++ tries_told tries, poller_told r0 r1 m0 m1 old new wakes wakes' course tries ran none closed)
 
 memory_refused : {ample : Bool} (r0 r1 : Option (List Event)) (m0 m1 : ℕ) (old new : ReactorState) (wakes wakes' : Woken) →
     RanSo ample r0 r1 m0 m1 old new wakes wakes' react_err.OutOfMemory → (more : List Event) × (r1 ≡ told r0 more)
-memory_refused r0 r1 m0 m1 old new wakes wakes' (course, tries, ran) = (course_told None course ++ tries_told tries, ran.gained)
+memory_refused r0 r1 m0 m1 old new wakes wakes' (course, tries, ran) = (course_told (limit_of old) course ++ tries_told tries, ran.gained)
 
 same_told : (r0 r1 : Option (List Event)) (old new : ReactorState) → new ≡ old → r1 ≡ r0 → new.core.hands ≡ None → Told r0 r1 old.core new.core []
 same_told r0 r1 old new same events closed = record {
@@ -520,21 +544,21 @@ same_told r0 r1 old new same events closed = record {
 refused_by : (ample : Bool) (r0 r1 : Option (List Event)) (m0 m1 : ℕ) (old new : ReactorState) (wakes wakes' : Woken)
     (e : ReactError) → UnlessExhausted {T = Unit {0}} (Err e) (RanSo ample r0 r1 m0 m1 old new wakes wakes' e) →
     OnExhausted {T = Unit {0}} (Err e) (Same old new r0 r1 wakes wakes' m0 m1) →
-    NumberedBy {T = Unit {0}} (Err e) old.core.ticker → new.core.hands ≡ None →
+    NumberedBy {T = Unit {0}} counter.Round (Err e) old.core.ticker → timers_applied old.core ≡ [] → new.core.hands ≡ None →
     RefusedAt (open_error e) r0 r1 old.core new.core
-refused_by ample r0 r1 m0 m1 old new wakes wakes' react_err.Poller ran same numbered closed = poller_refused r0 r1 m0 m1 old new wakes wakes' ran closed
-refused_by ample r0 r1 m0 m1 old new wakes wakes' react_err.OutOfMemory ran same numbered closed = (closed, memory_refused r0 r1 m0 m1 old new wakes wakes' ran)
-refused_by ample r0 r1 m0 m1 old new wakes wakes' (react_err.Exhausted c value) ran same numbered closed =
+refused_by ample r0 r1 m0 m1 old new wakes wakes' react_err.Poller ran same numbered none closed = poller_refused r0 r1 m0 m1 old new wakes wakes' ran none closed
+refused_by ample r0 r1 m0 m1 old new wakes wakes' react_err.OutOfMemory ran same numbered none closed = (closed, memory_refused r0 r1 m0 m1 old new wakes wakes' ran)
+refused_by ample r0 r1 m0 m1 old new wakes wakes' (react_err.Exhausted c value) ran same numbered none closed =
     (numbered.0, numbered.1, ap (λ x. x.core.ticker) same.0 ∙ numbered.2, ([], same_told r0 r1 old new same.0 same.2 closed))
 
 -- an answer of this refusal
 pub round-refused : {T : Type 0} (ample : Bool) (result : Result T OpenError) (r0 r1 : Option (List Event)) (m0 m1 : ℕ)
     (old new : ReactorState) (wakes wakes' : Woken) (e : ReactError) → IsErrAnd result (λ x. x ≡ open_error e) →
     UnlessExhausted {T = Unit {0}} (Err e) (RanSo ample r0 r1 m0 m1 old new wakes wakes' e) →
-    OnExhausted {T = Unit {0}} (Err e) (Same old new r0 r1 wakes wakes' m0 m1) → NumberedBy {T = Unit {0}} (Err e) old.core.ticker → new.core.hands ≡ None → Refuses result r0 r1 old.core new.core
-round-refused ample (Ok v) r0 r1 m0 m1 old new wakes wakes' e is ran same numbered closed = tt
-round-refused ample (Err x) r0 r1 m0 m1 old new wakes wakes' e is ran same numbered closed =
-    subst (λ y. RefusedAt y r0 r1 old.core new.core) (sym is) (refused_by ample r0 r1 m0 m1 old new wakes wakes' e ran same numbered closed)
+    OnExhausted {T = Unit {0}} (Err e) (Same old new r0 r1 wakes wakes' m0 m1) → NumberedBy {T = Unit {0}} counter.Round (Err e) old.core.ticker → timers_applied old.core ≡ [] → new.core.hands ≡ None → Refuses result r0 r1 old.core new.core
+round-refused ample (Ok v) r0 r1 m0 m1 old new wakes wakes' e is ran same numbered none closed = tt
+round-refused ample (Err x) r0 r1 m0 m1 old new wakes wakes' e is ran same numbered none closed =
+    subst (λ y. RefusedAt y r0 r1 old.core new.core) (sym is) (refused_by ample r0 r1 m0 m1 old new wakes wakes' e ran same numbered none closed)
 
 -- ---- a round leaves each session where it stands
 
@@ -587,14 +611,14 @@ pub round-failed : (ample : Bool) (r0 r1 : Option (List Event)) (m0 m1 : ℕ) (o
 round-failed ample r0 r1 m0 m1 old new wakes wakes' react_err.OutOfMemory rests ran = tt
 round-failed ample r0 r1 m0 m1 old new wakes wakes' (react_err.Exhausted c value) rests ran = tt
 round-failed ample r0 r1 m0 m1 old new wakes wakes' react_err.Poller rests (course, tries, ran) =
-    failed_so (rounds-cut WokenBy ample r0 r1 m0 m1 old new wakes wakes' course tries ran)
+    failed_so (rounds-cut WokenBy ample r0 r1 m0 m1 old new rests.timeless wakes wakes' course tries ran)
   where
     ran_ticker : (course : Course) (tries : List Try) →
         Ran WokenBy None ample r0 r1 m0 m1 old new wakes wakes' (Err react_err.Poller) course tries →
         new.core.ticker ≡ old.core.ticker + 1
     ran_ticker Unread tries ran = absurd (let e = ran.answers in cc)
     ran_ticker (Read first pause) tries ran =
-        ap (λ c. c.ticker) (course-core old.core new.core first pause ran.tasks ran.steps)
+        ap (λ c. c.ticker) (course-core old.core new.core None first pause ran.tasks rests.timeless ran.steps)
 
     failed_so : (r : Round) × (rearmed : List Event) × RoundCut ample r0 r1 old.core r rearmed →
         (r : Round) × (rearmed : List Event) × RoundFailed ample r0 r1 old.core new.core r rearmed

@@ -6,7 +6,7 @@ ghost use Rattle.react_core.specs.Outer.{Keeps};
 ghost use Rattle.react_core.specs.Outer as part;
 ghost use Rattle.react_core.specs.Told.{told};
 ghost use Rattle.bus_peers.specs.declared.open.OpenError.TheVariants as open_err;
-ghost use Rattle.bus_peers.specs.inside.Rounds.{is_kept, AllEnd, EndsIn, IsHeld, without_slot, removal_told};
+ghost use Rattle.bus_peers.specs.inside.Rounds.{is_kept, cleared, AllEnd, EndsIn, IsHeld, without_slot, removal_told};
 ghost use Rattle.bus_peers.specs.inside.Closing.{closing};
 ghost use Rattle.bus_peers.specs.inside.Failures.{Removes};
 ghost use Rattle.bus_visit.specs.Shown.{shown, tags};
@@ -45,7 +45,7 @@ fn remove_source<R: Registrar>(
 
 /// Takes out the sources of the sessions that sleep, in order, and goes on where one is refused. The first refusal is
 /// answered.
-pub(crate) fn remove_sources<R: Registrar>(
+fn remove_sources<R: Registrar>(
     reactor: &mut Reactor,
     registrar: &mut R,
     slots: &Vec<Slot>,
@@ -68,6 +68,30 @@ pub(crate) fn remove_sources<R: Registrar>(
         answer = answer.and(remove_source(reactor, registrar, slot));
     }
     answer
+}
+
+/// Takes out the sources of the sessions that sleep, in order, and all timers.
+pub(crate) fn close<R: Registrar>(
+    reactor: &mut Reactor,
+    registrar: &mut R,
+    slots: &Vec<Slot>,
+) -> Result<(), OpenError>
+    requires owned { Owned slots.now.items (tags reactor.old.core.sources) }
+    ensures reactor { reactor.new ≡ record reactor.old { core = cleared reactor.old.core } }
+    ensures told { OnOk result
+        ((R.outer registrar.new).events
+        ≡ told ((R.outer registrar.old).events)
+        (closing (length slots.now.items) 0 (map shown reactor.old.core.sources))) }
+    ensures removals { Removes (R.outer registrar.old).ample
+        (closing (length slots.now.items) 0 (map shown reactor.old.core.sources)) result
+        ((R.outer registrar.old).events) ((R.outer registrar.new).events) }
+    ensures cause { VisitsCounted result ((R.outer registrar.old).poller_faults)
+        ((R.outer registrar.new).poller_faults) }
+    ensures keeps { Keeps part.Poller (R.outer registrar.old) (R.outer registrar.new) }
+{
+    let removed = remove_sources(reactor, registrar, slots);
+    reactor.clear_timers();
+    removed
 }
 
 /// What the session of a slot has come to: one that sleeps still waits.

@@ -18,7 +18,7 @@ ghost use Rattle.bus_visit.specs.Shown.{IsBetweenCalls, tags};
 ghost use Rattle.bus_peers.specs.inside.Slots.{Owned, AllOpen, CallStandsAfter, CallSettled, Refuses, Halts};
 ghost use Rattle.bus_peers.specs.inside.SlotFaults.{VisitsCounted};
 
-use crate::closing::{endeds_in, remove_sources};
+use crate::closing::{close, endeds_in};
 use crate::rounds::{Nobody, go_rounds};
 use bus_session::{Ended, Session};
 use bus_visit::{Slot, first_visit};
@@ -193,7 +193,7 @@ fn open_over<O: Outside>(
     reactor.fits();
     let mut slots = Vec::with_capacity(alloc, sessions.len())?;
     let opened = open_rounds(alloc, reactor, outside, sessions, rounds, &mut slots);
-    let removed = remove_sources(reactor, outside, &slots);
+    let removed = close(reactor, outside, &slots);
     opened?;
     removed?;
     endeds_in(alloc, slots)

@@ -7,7 +7,7 @@ use Rattle.react_core.specs.declared.outside.Event.TheVariants as event
 use Rattle.react_core.specs.declared.reactor.ReactError.{ReactError}
 use Rattle.react_core.specs.declared.reactor.ReactError.TheVariants as react_error
 use Rattle.react_core.specs.Causes.{InsertTold}
-use Rattle.react_core.specs.Core.{Core, inserted}
+use Rattle.react_core.specs.Core.{Core, inserted, timers_applied}
 use Rattle.react_core.specs.Sources.{source_of, with_new, new_source}
 use Rattle.react_core.specs.Told.{told, told-nothing}
 use Rattle.bus_opening.specs.Talk.{Said}
@@ -78,6 +78,7 @@ module _ (old mid : Core) (wire key : ℕ) (free : source_of old.sources key ≡
         sane = subst R (sym is) (sane-new old.ticker old.ticker key wire old.sources rests.sane);
         distinct = single-distinct mid.sources (subst S (sym tags-inserted) (single-with (tags old.sources) key wire new (distinct-single old.sources rests.distinct)));
         idle = ap (λ x. x.hands) is ∙ rests.idle;
+        timeless = ap timers_applied is ∙ rests.timeless;
         fits = subst F (sym is) rests.fits;
       }
 

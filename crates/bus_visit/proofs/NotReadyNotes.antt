@@ -12,7 +12,7 @@ use Rattle.react_core.specs.declared.reactor.ReactError.{ReactError}
 use Rattle.react_core.specs.declared.reactor.ReactError.TheVariants as react_error
 use Rattle.react_core.specs.Places.{Direction, Source}
 use Rattle.react_core.specs.Told.{told}
-use Rattle.react_core.specs.Core.{Core, HasSource}
+use Rattle.react_core.specs.Core.{Core, HasSource, timers_applied}
 use Rattle.react_core.specs.Sources as sources_of
 use Rattle.react_core.specs.Sources.{source_of, side, with_side}
 use Rattle.react_core.specs.Readiness.{Outcome, direction_outcome, source_outcome, poll_outcome, poll_answer}
@@ -77,6 +77,11 @@ poll-ticker : (core : Core) (key : ℕ) (dir : Dir) (s : Source) (task : ℕ) (b
 poll-ticker core key dir s task Idle = refl
 poll-ticker core key dir s task Waits = refl
 poll-ticker core key dir s task Reported = refl
+
+poll-timers : (core : Core) (key : ℕ) (dir : Dir) (s : Source) (task : ℕ) (b : Side) → timers_applied (after_source_poll core key (Some s) dir task (poll_of b)) ≡ timers_applied core
+poll-timers core key dir s task Idle = refl
+poll-timers core key dir s task Waits = refl
+poll-timers core key dir s task Reported = refl
 
 poll-hands : (core : Core) (key : ℕ) (dir : Dir) (s : Source) (task : ℕ) (b : Side) → (after_source_poll core key (Some s) dir task (poll_of b)).hands ≡ core.hands
 poll-hands core key dir s task Idle = refl
@@ -204,6 +209,7 @@ readied-at old new wire key dir answer r0 r1 s rests is own step gained =
         sane = rw (core, poll-ticker) (sane-poll old key dir s b rests.sane is);
         distinct = rw shows' (distinct-noted wire dir (map shown old.sources) rests.distinct);
         idle = rw (core, poll-hands) rests.idle;
+        timeless = ap timers_applied core ∙ poll-timers old key dir s s.wire b ∙ rests.timeless;
         fits = rw core (poll-fits old key dir s s.wire b rests.fits);
       };
       ticker = ap (λ c. c.ticker) core ∙ poll-ticker old key dir s s.wire b;

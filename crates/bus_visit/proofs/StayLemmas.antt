@@ -54,6 +54,7 @@ rests-removed core key rests = record {
   sane = sane-without core.ticker core.ticker core.sources key rests.sane;
   distinct = single-distinct (without core.sources key) (subst Single (sym (tags-without core.sources key)) (single-without (tags core.sources) key (distinct-single core.sources rests.distinct)));
   idle = rests.idle;
+  timeless = rests.timeless;
   fits = rests.fits;
 }
 

@@ -75,6 +75,10 @@ removal_told (slot.Ended e) core = []
 removal_told (slot.Asleep s) core = removal_of (source_of core.sources s.key) s.key
 removal_told slot.Refused core = []
 
+-- no source is left, and no timer
+abbrev pub cleared : Core → Core
+cleared core = record core { sources = []; queue = []; timers = [] }
+
 -- ---- the endings
 
 abbrev pub is_kept : Slot → Bool

@@ -13,22 +13,22 @@ returns-in_err-slots-clause-opened g c =
 pub returns-in_err-opened-clause-opened : goal.returns-in_err-opened-clause-opened
 returns-in_err-opened-clause-opened g c =
     answers-refused (λ endeds. endeds.items) c.args.sessions.now.items c.args.rounds _ _ _ _
-    c.args.reactor.now.core c.open_rounds-opened.new.reactor c.remove_sources-removed.new.reactor
-    c.open_rounds-opened.new.slots.items c.remove_sources-removed.ensures.reactor
-    c.from_residual-in_err-opened.result c.in_err-opened.field-0.0 c.remove_sources-removed.result
+    c.args.reactor.now.core c.open_rounds-opened.new.reactor c.close-removed.new.reactor
+    c.open_rounds-opened.new.slots.items c.close-removed.ensures.reactor
+    c.from_residual-in_err-opened.result c.in_err-opened.field-0.0 c.close-removed.result
     c.from_residual-in_err-opened.ensures.1 c.requires.built c.open_rounds-opened.ensures.owned
     c.open_rounds-opened.ensures.within c.in_err-opened.ensures.halted c.in_err-opened.ensures.refused
     c.in_err-opened.ensures.failed
-    (rw c.open_rounds-opened.ensures.keeps.ample at c.remove_sources-removed.ensures.removals)
+    (rw c.open_rounds-opened.ensures.keeps.ample at c.close-removed.ensures.removals)
 
 pub returns-in_err-removed-clause-opened : goal.returns-in_err-removed-clause-opened
 returns-in_err-removed-clause-opened g c =
     answers-unremoved (λ endeds. endeds.items) c.args.sessions.now.items c.args.rounds _ _ _ _
-    c.args.reactor.now.core c.open_rounds-opened.new.reactor c.remove_sources-removed.new.reactor
-    c.open_rounds-opened.new.slots.items c.remove_sources-removed.ensures.reactor
+    c.args.reactor.now.core c.open_rounds-opened.new.reactor c.close-removed.new.reactor
+    c.open_rounds-opened.new.slots.items c.close-removed.ensures.reactor
     c.from_residual-in_err-removed.result c.in_err-removed.field-0.0
     ((g.O.Tells.outer c.open_rounds-opened.new.outside).poller_faults)
-    ((g.O.Tells.outer c.remove_sources-removed.new.registrar).poller_faults) c.from_residual-in_err-removed.ensures.1
+    ((g.O.Tells.outer c.close-removed.new.registrar).poller_faults) c.from_residual-in_err-removed.ensures.1
     c.requires.built c.in_ok-opened.ensures.len c.open_rounds-opened.ensures.owned c.in_ok-opened.ensures.rested
     c.in_err-removed.ensures.cause
     (rw c.open_rounds-opened.ensures.keeps.ample at c.in_err-removed.ensures.removals)
@@ -43,8 +43,8 @@ endeds_in-requires-clause-kept g c =
 pub returns-clause-opened : goal.returns-clause-opened
 returns-clause-opened g c =
     answers-opened (λ endeds. endeds.items) c.args.sessions.now.items c.args.rounds _ _ _ _
-    c.args.reactor.now.core c.open_rounds-opened.new.reactor c.remove_sources-removed.new.reactor
-    c.open_rounds-opened.new.slots.items c.remove_sources-removed.ensures.reactor c.endeds_in.result c.requires.built
+    c.args.reactor.now.core c.open_rounds-opened.new.reactor c.close-removed.new.reactor
+    c.open_rounds-opened.new.slots.items c.close-removed.ensures.reactor c.endeds_in.result c.requires.built
     c.in_ok-opened.ensures.len c.open_rounds-opened.ensures.owned c.in_ok-opened.ensures.rested
     c.in_ok-removed.ensures.told c.endeds_in.ensures.ended c.endeds_in.ensures.err
 
@@ -55,18 +55,18 @@ pub returns-in_err-opened-clause-keeps : goal.returns-in_err-opened-clause-keeps
 returns-in_err-opened-clause-keeps g c =
     keeps-then (part.All c.args.reactor.now.events)
     _ _ _ c.open_rounds-opened.ensures.keeps (poller-in-all c.args.reactor.now.events _ _
-    c.remove_sources-removed.ensures.keeps)
+    c.close-removed.ensures.keeps)
 
 pub returns-in_err-removed-clause-keeps : goal.returns-in_err-removed-clause-keeps
 returns-in_err-removed-clause-keeps g c =
     keeps-then (part.All c.args.reactor.now.events)
     _ _ _ c.open_rounds-opened.ensures.keeps (poller-in-all c.args.reactor.now.events _ _
-    c.remove_sources-removed.ensures.keeps)
+    c.close-removed.ensures.keeps)
 
 pub returns-clause-keeps : goal.returns-clause-keeps
-returns-clause-keeps g c = keeps-then (part.All c.args.reactor.now.events) _ _ _ c.open_rounds-opened.ensures.keeps (poller-in-all c.args.reactor.now.events _ _ c.remove_sources-removed.ensures.keeps)
+returns-clause-keeps g c = keeps-then (part.All c.args.reactor.now.events) _ _ _ c.open_rounds-opened.ensures.keeps (poller-in-all c.args.reactor.now.events _ _ c.close-removed.ensures.keeps)
 
 pub returns-clause-faults : goal.returns-clause-faults
 returns-clause-faults g c = IfOk-weaker c.endeds_in.result _ _
     (λ endeds ends. all-ended 0 c.open_rounds-opened.new.slots.items endeds.items _ _ ends
-    (all-later 0 c.open_rounds-opened.new.slots.items _ _ _ (fell-all 0 _ _ (poller-in-all 0 _ _ c.remove_sources-removed.ensures.keeps)) c.in_ok-opened.ensures.counted)) c.endeds_in.ensures.ended
+    (all-later 0 c.open_rounds-opened.new.slots.items _ _ _ (fell-all 0 _ _ (poller-in-all 0 _ _ c.close-removed.ensures.keeps)) c.in_ok-opened.ensures.counted)) c.endeds_in.ensures.ended

@@ -1,6 +1,7 @@
 use Rattle.std.proofs.Common.{rules, ◌≡◌, ◌≢◌, inl, inr, Bool, true, false, [], None, ◌∙◌, arith}
 use Rattle.std.proofs.lemmas.Bool.{both_ways}
 use Rattle.react_core.specs.Core.{Core, IsIdle}
+use Rattle.bus_visit.specs.Shown.{IsBetweenCalls}
 use Rattle.bus_peers.specs.inside.Rounds.{OnExhausted}
 use Rattle.bus_peers.specs.inside.Slots.{Refuses}
 use Rattle.react_core.specs.Outer.{keeps-same, keeps-then}
@@ -12,8 +13,8 @@ use Rattle.bus_peers.proofs.FailingRounds.{rounds-then-fail}
 use Rattle.bus_peers.proofs.MadeLemmas.{on-poller, if-poller-by}
 use Rattle.bus_peers.proofs.rounds.go_rounds.Goals as goal
 
-asleep : (core : Core) (b : Bool) → (IsIdle core → b ≡ true) → core.hands ≡ None → b ≡ false → core.sources ≢ []
-asleep core b idle closed off = λ e. both_ways b off (idle (closed, e))
+asleep : (core : Core) (b : Bool) → (IsIdle core → b ≡ true) → IsBetweenCalls core → b ≡ false → core.sources ≢ []
+asleep core b idle rests off = λ e. both_ways b off (idle (rests.idle, e, rests.timeless))
 
 pub returns-in_err-go_round-clause-refused : goal.returns-in_err-go_round-clause-refused
 returns-in_err-go_round-clause-refused g c =
@@ -35,7 +36,7 @@ returns-in_err-go_round-clause-stuck g c =
     c.args.reactor.now.core c.loop-done.reactor c.go_round.new.reactor c.args.slots.now.items c.loop-done.slots.items
     c.go_round.new.slots.items
     c.loop-done.invariant.len c.loop-done.invariant.owned c.loop-done-test.true (asleep c.loop-done.reactor.core
-    c.is_idle.result c.is_idle.ensures.1 c.loop-done.invariant.rests.idle off) c.loop-done.invariant.went here
+    c.is_idle.result c.is_idle.ensures.1 c.loop-done.invariant.rests off) c.loop-done.invariant.went here
 
 pub loop-done-preserved : goal.loop-done-preserved
 loop-done-preserved g c =
@@ -47,7 +48,7 @@ loop-done-preserved g c =
           c.args.reactor.now.core c.loop-done.reactor.core c.go_round.new.reactor.core c.args.slots.now.items
           c.loop-done.slots.items c.go_round.new.slots.items
           c.loop-done.invariant.len c.loop-done-test.true (asleep c.loop-done.reactor.core c.is_idle.result
-          c.is_idle.ensures.1 c.loop-done.invariant.rests.idle off) c.loop-done.invariant.went
+          c.is_idle.ensures.1 c.loop-done.invariant.rests off) c.loop-done.invariant.went
           c.in_ok-go_round.ensures.went;
       rests = c.in_ok-go_round.ensures.rests;
       stands = c.in_ok-go_round.ensures.stands;
@@ -99,5 +100,5 @@ returns-in_err-go_round-clause-failed g c =
     rounds-then-fail _ c.args.rounds c.loop-done.done _ _ _ c.args.reactor.now.core c.loop-done.reactor.core
     c.go_round.new.reactor.core c.args.slots.now.items c.loop-done.slots.items c.loop-done.invariant.len
     c.loop-done-test.true
-    (asleep c.loop-done.reactor.core c.is_idle.result c.is_idle.ensures.1 c.loop-done.invariant.rests.idle off)
+    (asleep c.loop-done.reactor.core c.is_idle.result c.is_idle.ensures.1 c.loop-done.invariant.rests off)
     c.loop-done.invariant.went (rw c.loop-done.invariant.keeps.ample at fails)) c.in_err-go_round.ensures.failed)
