@@ -8,10 +8,10 @@ use Rattle.std.proofs.lemmas.List.Sums.{AllPass-from_list_all}
 use borrow.Author.Tests.{ltb-false}
 use Rattle.bus_script.specs.Words.{◌>>=◌, words_of}
 use Rattle.bus_session.specs.Sessions.{is_built}
-use Rattle.bus_script.specs.Forms.{line_of, is_built_line, is_built_answer}
+use Rattle.bus_script.specs.Forms.{line_of, is_built_line}
 use Rattle.bus_script.specs.Script.{Script, add, read_line, read_lines, at_line, built, names_sessions, has_more, later, latest, lines_in, script, empty}
 use Rattle.bus_script.specs.Reading.{GivesAt}
-use Rattle.bus_script.specs.Laws.{HasBuiltSessions, HasBuiltAnswers, NamesItsSessions, IsForward}
+use Rattle.bus_script.specs.Laws.{HasBuiltSessions, NamesItsSessions, IsForward}
 use Rattle.bus_script.specs.declared.reading.ScriptError.{ScriptError}
 use Rattle.bus_script.specs.declared.line.Reason.{Reason}
 use Rattle.bus_script.specs.declared.line.Reason.TheVariants.{NotBuilt, Order, Session, Clock}
@@ -23,7 +23,6 @@ use Rattle.bus_script.proofs.Shape.{guard_ok, guard_more, bind_ok, at_ok, or_fal
 
 record Sound (s : Script) : Type 0 where
   sessions : HasBuiltSessions s
-  answers : HasBuiltAnswers s
   names : NamesItsSessions s
   forward : IsForward 0 s.answers
 
@@ -60,7 +59,6 @@ add_sound s s' (lines.Rounds n) good sound h =
     let p = guard_ok (is_some s.rounds) Order (record s { rounds = Some n }) s' h in
     subst Sound p.1 (record {
       sessions = sound.sessions;
-      answers = sound.answers;
       names = sound.names;
       forward = sound.forward;
     })
@@ -70,7 +68,6 @@ add_sound s s' (lines.Start tick timer) good sound h =
     }) s' h in
     subst Sound p.1 (record {
       sessions = sound.sessions;
-      answers = sound.answers;
       names = sound.names;
       forward = sound.forward;
     })
@@ -84,7 +81,6 @@ add_sound s s' (lines.Session l) good sound h =
     rw none (none_pass (λ a. names_sessions (length (s.sessions ++ l ∷ [])) a)) in
     subst Sound p.1 (record {
       sessions = push_pass is_built s.sessions l sound.sessions good;
-      answers = sound.answers;
       names = named;
       forward = sound.forward;
     })
@@ -102,7 +98,6 @@ add_sound s s' (lines.Answer a) good sound h =
     ltb-false (later (latest s.answers) a) (latest s.answers) r.0 in
     subst Sound r.1 (record {
       sessions = sound.sessions;
-      answers = push_pass is_built_answer s.answers a sound.answers good;
       names = push_pass (λ b. names_sessions (length s.sessions) b) s.answers a sound.names named;
       forward = push_forward 0 s.answers a sound.forward later_on;
     })
@@ -121,7 +116,6 @@ lines_sound n s s' (text ∷ texts) sound h =
 script_sound : (text : List ℕ) (s : Script) → script text ≡ Ok s → Sound s
 script_sound text s h = lines_sound 1 empty s (lines_in text) (record {
   sessions = none_pass is_built;
-  answers = none_pass is_built_answer;
   names = none_pass (λ a. names_sessions 0 a);
   forward = tt;
 }) (script_lines text s h)
@@ -136,9 +130,6 @@ if_ok P Q (Err e) f h = tt
 
 pub sessions_built : (text : List ℕ) (r : Result Script ScriptError) → GivesAt r (script text) → IfOk r HasBuiltSessions
 sessions_built text r h = if_ok Sound HasBuiltSessions r (λ s sound. sound.sessions) (sound_if text r h)
-
-pub answers_built : (text : List ℕ) (r : Result Script ScriptError) → GivesAt r (script text) → IfOk r HasBuiltAnswers
-answers_built text r h = if_ok Sound HasBuiltAnswers r (λ s sound. sound.answers) (sound_if text r h)
 
 pub sessions_named : (text : List ℕ) (r : Result Script ScriptError) → GivesAt r (script text) → IfOk r NamesItsSessions
 sessions_named text r h = if_ok Sound NamesItsSessions r (λ s sound. sound.names) (sound_if text r h)

@@ -284,19 +284,7 @@ abbrev pub line_of : List (List ℕ) → Result Line Reason
 line_of [] = Err Form
 line_of (word ∷ rest) = line_with word rest
 
-abbrev pub is_built_answer : Answer → Bool
-is_built_answer (answers.Dial _ _) = true
-is_built_answer (answers.Recv _ _) = true
-is_built_answer (answers.Send _ _) = true
-is_built_answer (answers.Add _) = true
-is_built_answer (answers.Modify _) = true
-is_built_answer (answers.Delete _) = true
-is_built_answer (answers.Wait _) = true
-is_built_answer _ = false
-
 -- the forms that are built
 unfoldable pub is_built_line : Line → Bool
-is_built_line (lines.Rounds _) = true
 is_built_line (lines.Session session) = is_built session
-is_built_line (lines.Answer answer) = is_built_answer answer
-is_built_line _ = false
+is_built_line _ = true

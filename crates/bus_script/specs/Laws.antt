@@ -2,7 +2,6 @@
 use Rattle.std.specs.Prelude.{ℕ, ◌≤◌, List, [], ◌∷◌, length}
 use Rattle.std.specs.List.{AllPass}
 use Rattle.bus_session.specs.Sessions.{is_built}
-use Rattle.bus_script.specs.Forms.{is_built_answer}
 use Rattle.bus_script.specs.Script.{Script, names_sessions}
 use Rattle.bus_script.specs.declared.line.Answer.{Answer}
 use Rattle.bus_script.specs.declared.line.Answer.TheVariants as answers
@@ -10,10 +9,6 @@ use Rattle.bus_script.specs.declared.line.Answer.TheVariants as answers
 -- each session has a form that is built
 abbrev pub HasBuiltSessions : Script → Type 0
 HasBuiltSessions s = AllPass is_built s.sessions
-
--- each answer has a form that is built
-abbrev pub HasBuiltAnswers : Script → Type 0
-HasBuiltAnswers s = AllPass is_built_answer s.answers
 
 -- the sessions that the answers name are there
 abbrev pub NamesItsSessions : Script → Type 0

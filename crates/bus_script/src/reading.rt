@@ -2,10 +2,10 @@
 
 ghost use Rattle.std.specs.Prelude.{◌≡◌, ◌≤◌, List, length, IfOk, Some, Ok};
 ghost use Rattle.std.specs.List.{list_all};
-ghost use Rattle.bus_script.specs.Forms.{is_built_line, is_built_answer};
+ghost use Rattle.bus_script.specs.Forms.{is_built_line};
 ghost use Rattle.bus_script.specs.Reading.{Steps, StepsAt, GivesAt, CutsLine};
 ghost use Rattle.bus_script.specs.Shape.{Say, lines_of};
-ghost use Rattle.bus_script.specs.Laws.{HasBuiltSessions, HasBuiltAnswers, NamesItsSessions, IsForward};
+ghost use Rattle.bus_script.specs.Laws.{HasBuiltSessions, NamesItsSessions, IsForward};
 ghost use Rattle.bus_script.specs.Script.{Script, start_of, latest, later, add, is_there, names_sessions, has_more};
 ghost use Rattle.bus_script.specs.Script.{empty, read_line, at_line, read_lines, whole, script, lines_in, is_skipped};
 
@@ -297,25 +297,8 @@ fn is_built_line(line: &Line) -> bool
     ensures { result ≡ is_built_line line.now }
 {
     match line {
-        Line::Rounds(_) => true,
         Line::Session(session) => session.is_built(),
-        Line::Answer(answer) => is_built_answer(answer),
-        _ => false,
-    }
-}
-
-fn is_built_answer(answer: &Answer) -> bool
-    ensures { result ≡ is_built_answer answer.now }
-{
-    match answer {
-        Answer::Dial { .. }
-        | Answer::Recv { .. }
-        | Answer::Send { .. }
-        | Answer::Add(_)
-        | Answer::Modify(_)
-        | Answer::Delete(_)
-        | Answer::Wait(_) => true,
-        _ => false,
+        _ => true,
     }
 }
 
@@ -368,13 +351,12 @@ fn read_exact(alloc: Global, bytes: &[u8]) -> Result<Script, ScriptError>
 /// Reads the script that the bytes spell.
 ///
 /// A text that spells none is refused with the number of its first bad line and the reason.
-#[tactic(auto, using(crate::proofs::Shape::read_says, crate::proofs::Laws::sessions_built, crate::proofs::Laws::answers_built, crate::proofs::Laws::sessions_named, crate::proofs::Laws::is_forward))]
+#[tactic(auto, using(crate::proofs::Shape::read_says, crate::proofs::Laws::sessions_built, crate::proofs::Laws::sessions_named, crate::proofs::Laws::is_forward))]
 pub fn read(alloc: Global, text: &[u8], _form: ScriptForm) -> Result<Script, ScriptError>
     ensures exact { GivesAt result (script text.now) }
     // Its lines say the rounds, then the start, then the sessions, then the answers, and nothing else.
     ensures in_order { IfOk result (λ s. Say (lines_in text.now) (lines_of s)) }
     ensures built_sessions { IfOk result HasBuiltSessions }
-    ensures built_answers { IfOk result HasBuiltAnswers }
     // Each answer that names a session names one that is there.
     ensures named { IfOk result NamesItsSessions }
     // The clock never falls.

@@ -38,7 +38,14 @@ fn whole_scripts_are_read_or_refused_at_their_first_bad_line(rt: HostRuntime) ->
         ("rounds 1\n\n# skipped\nrecv 0 end", "refused 4 session\n"),
         ("# first\nrecv 0 end\nrounds 1", "refused 2 order\n"),
         ("what\nrounds 1", "refused 1 form\n"),
-        ("notify ok\nrounds 1", "refused 1 not-built\n"),
+        ("notify ok\nrounds 1", "refused 1 order\n"),
+        (
+            "client EXTERNAL 1000 - n 9 unix:path=/run/a\nrounds 1",
+            "refused 1 not-built\n",
+        ),
+        ("rounds 0\nnow 5\nnow 4", "refused 3 clock\n"),
+        ("rounds 1\nstart 18446744073709551615 0", ""),
+        ("start 0 0\nrounds 1", "refused 1 order\n"),
         ("rounds 0\nrounds 1", "refused 2 order\n"),
         ("rounds 1\r\n", "refused 1 form\n"),
         ("rounds 1\n\r\n", "refused 2 form\n"),
@@ -98,6 +105,8 @@ fn each_form_of_a_line_is_read_refused_or_not_built(rt: HostRuntime) -> Result<(
         "send 0 again",
         "send 0 fault",
         "add ok",
+        "now 0",
+        "notify fault",
         "modify fault",
         "delete ok",
         "wait reports",
@@ -117,12 +126,9 @@ fn each_form_of_a_line_is_read_refused_or_not_built(rt: HostRuntime) -> Result<(
         "server 1234deadbeef1234deadbeef12345678 ANONYMOUS - -",
     ];
     let not_built = [
-        "start 0 18446744073709551615",
         "client - 0 . y 5 ",
         "client EXTERNAL 1000 - n 50 unix:path=/run/a",
         "server 1234deadbeef1234deadbeef12345678 ANONYMOUS - 5",
-        "now 0",
-        "notify fault",
     ];
     let formless = [
         " ",
