@@ -10,3 +10,4 @@ mod LeftPlaces
 mod Comes
 mod Closing
 mod Pauses
+mod Alike

@@ -9,3 +9,4 @@ pub mod Rows
 pub mod FailingRows
 pub mod Refusals
 pub mod Laws
+pub mod Isolation

@@ -2,12 +2,13 @@
 
 ghost use Rattle.bus_record.specs.Laws.{OneCutting, PartsInPieces, WaitsWhereLeft, WaitsInRecord, WaitsAtPlaces};
 ghost use Rattle.bus_record.specs.Laws.{EachComesToSomething, PausesLittle};
+ghost use Rattle.bus_record.specs.Isolation.{EndsAlike};
 ghost use Rattle.bus_record.specs.Rows.{BothOpen, BothPromised, OneWaits, WireComesFirst, LateAtOnce, ReachedInRound};
 ghost use Rattle.bus_record.specs.Rows.{MissedInRound, WrongDirection, EasilyMissed, Servers, FurtherRounds};
 ghost use Rattle.bus_record.specs.FailingRows.{SmallFailures, RefusedFailures};
 ghost use Rattle.bus_record.specs.Refusals.{RefusedVisits, RefusedEndings, RefusedRuns};
 
-use bus_session::Session;
+use bus_session::{Session, session_is_isolated};
 
 /// A record is cut into the pieces of a settled record in one way only.
 pub fn cutting_is_unique(sessions: &[Session])
@@ -46,6 +47,15 @@ pub fn each_session_comes_to_something(sessions: &[Session])
     ensures { EachComesToSomething sessions.now }
 {
     let _count = sessions.len();
+}
+
+/// What becomes of a session is nobody else's matter: of two runs of any sessions, each with the headline, a session
+/// of both whose events were the same, but for the number of its wire, and whose last readings were, has the same
+/// ending, the same written bytes and the same left-over ones in both.
+pub fn session_ends_alike(session: &Session)
+    ensures { EndsAlike session.now }
+{
+    session_is_isolated(session);
 }
 
 /// A visit has at most three NotReady.
