@@ -1,15 +1,14 @@
 -- A session ends alike in two runs.
-use Rattle.std.proofs.Common.{◌≡◌, ◌+◌, ℕ, zero, suc, List, [], ◌∷◌, Option, Some, map, refl, sym, ap, subst, ◌∙◌, arith}
+use Rattle.std.proofs.Common.{◌≡◌, ◌+◌, ℕ, zero, suc, List, [], ◌∷◌, Some, sym, ap, ◌∙◌, arith}
 use Rattle.std.specs.Prelude.{slice_get}
 use Rattle.react_core.specs.declared.outside.Event.{Event}
 use Rattle.bus_session.specs.declared.session.Session.{Session}
 use Rattle.bus_session.specs.declared.ended.Ended.{Ended}
 use Rattle.bus_session.specs.Alone.{alone}
-use Rattle.bus_session.specs.Laws.{on_wire, IsIsolated}
+use Rattle.bus_session.specs.Laws.{IsIsolated}
 use Rattle.bus_session.specs.Outcomes.{Outcome, outcome}
 use Rattle.bus_session.specs.Parts.{part}
 use Rattle.bus_record.specs.Pieces.{Pieces, told}
-use Rattle.bus_record.specs.Places.{moment}
 use Rattle.bus_record.specs.Headline.{Each, IsEnding}
 use Rattle.bus_record.specs.Isolation.{Ran, EndsAlike}
 use Rattle.bus_record.proofs.Closing.{parts_in_pieces}

@@ -1,6 +1,5 @@
 -- The small records that were cut off, by computation.
 use Rattle.std.proofs.Common.{◌≡◌, ℕ, true, false, List, [], ◌∷◌, None, refl, inl, inr, lit<, arith}
-use Rattle.react_core.specs.declared.outside.Event.{Event}
 use Rattle.react_core.specs.declared.outside.Event.TheVariants as event
 use Rattle.react_core.specs.declared.outside.WaitAnswer.TheVariants as wait_answer
 use Rattle.bus_record.specs.Pieces.{nothing}

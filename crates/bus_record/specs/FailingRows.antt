@@ -1,5 +1,5 @@
 -- Small records that a failing call of the poller cut off, by hand.
-use Rattle.std.specs.Prelude.{◌≡◌, Bool, true, false, List, [], ◌∷◌, ◌++◌, None}
+use Rattle.std.specs.Prelude.{true, false, List, [], ◌∷◌, ◌++◌, None}
 use Rattle.react_core.specs.declared.outside.Event.{Event}
 use Rattle.react_core.specs.declared.outside.Event.TheVariants as event
 use Rattle.react_core.specs.declared.outside.Question.TheVariants as question
@@ -7,9 +7,9 @@ use Rattle.react_core.specs.declared.outside.DialAnswer.TheVariants as dial_answ
 use Rattle.react_core.specs.declared.outside.RecvAnswer.TheVariants as recv_answer
 use Rattle.react_core.specs.declared.outside.WaitAnswer.TheVariants as wait_answer
 use Rattle.bus_session.specs.declared.session.Session.{Session}
-use Rattle.bus_record.specs.Pieces.{Pieces, told}
+use Rattle.bus_record.specs.Pieces.{told}
 use Rattle.bus_record.specs.Failing.{Made, FailsAtEnd, PollerFailed}
-use Rattle.bus_record.specs.Rows.{client_at, path_a, path_b, opened, asleep, opens, one_waits, some_report, removed}
+use Rattle.bus_record.specs.Rows.{client_at, path_a, path_b, opened, one_waits, some_report, removed}
 
 -- a client without a deadline, and two of them
 abbrev pub one : List Session

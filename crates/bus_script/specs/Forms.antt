@@ -26,7 +26,6 @@ use Rattle.bus_script.specs.declared.line.ScriptWait.TheVariants as waits
 use Rattle.bus_script.specs.declared.line.ReadySource.{ReadySource}
 use Rattle.bus_script.specs.declared.line.ReadySource.TheVariants as sources
 use Rattle.bus_script.specs.declared.line.Ready.{Ready}
-use Rattle.bus_script.specs.declared.line.Answer.{Answer}
 use Rattle.bus_script.specs.declared.line.Answer.TheVariants as answers
 use Rattle.bus_script.specs.declared.line.Line.{Line}
 use Rattle.bus_script.specs.declared.line.Line.TheVariants as lines

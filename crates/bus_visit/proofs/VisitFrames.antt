@@ -1,5 +1,5 @@
 -- What the calls of a visit keep of the outside, and which counts they raise.
-use Rattle.std.proofs.Common.{◌≡◌, ◌≤◌, inr, ℕ, true, Option, Some, None, Result, Ok, Err, sym, subst}
+use Rattle.std.proofs.Common.{◌≡◌, ◌≤◌, inr, ℕ, true, Result, Ok, Err, sym, subst}
 use Rattle.react_core.specs.Outer.{Outer, Keeps, keeps-then, wire-in-visit, poller-in-visit}
 use Rattle.react_core.specs.Outer as part
 use Rattle.bus_visit.specs.declared.conversing.Conversed.{Conversed}

@@ -1,6 +1,6 @@
 -- A call of the poller fails in a visit: what was told, and what the visit would have been, had the call been answered
 -- well.
-use Rattle.std.specs.Prelude.{◌≡◌, ◌⊎◌, ℕ, Bool, true, false, List, [], ◌∷◌, ◌++◌, map, Option, Some, None, Result, Ok}
+use Rattle.std.specs.Prelude.{◌≡◌, ◌⊎◌, ℕ, Bool, true, false, List, [], ◌∷◌, ◌++◌, map, Option, None, Result, Ok}
 use Rattle.std.specs.Prelude.{Err}
 use Rattle.react_core.specs.declared.outside.Event.{Event}
 use Rattle.react_core.specs.declared.outside.Event.TheVariants as event
@@ -19,7 +19,7 @@ use Rattle.bus_visit.specs.Asking.{arms_at}
 use Rattle.bus_visit.specs.Dialled.{Answered, DialsTo}
 use Rattle.bus_visit.specs.Noted.{NotReadyNoted, arms_told}
 use Rattle.bus_visit.specs.Shown.{shown}
-use Rattle.bus_visit.specs.Visited.{TurnEnd, Asleep, Turned, RegisteredVisit, tail_of}
+use Rattle.bus_visit.specs.Visited.{Asleep, Turned, RegisteredVisit, tail_of}
 
 -- what holds where a refusal is Poller
 abbrev pub IfPoller : ReactError → Type 0 → Type 0

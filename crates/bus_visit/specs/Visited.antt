@@ -1,5 +1,5 @@
 -- What the parts of a visit do, whatever the record was before them.
-use Rattle.std.specs.Prelude.{◌≡◌, ◌≢◌, ◌<◌, ◌≤◌, ℕ, ◌+◌, Bool, true, false, List, [], ◌∷◌, ◌++◌, map, length}
+use Rattle.std.specs.Prelude.{◌≡◌, ◌≢◌, ◌<◌, ◌≤◌, ℕ, ◌+◌, true, false, List, [], ◌∷◌, ◌++◌, map, length}
 use Rattle.std.specs.Prelude.{Option, Some, None, is_some, Result, Ok, Err}
 use Rattle.react_core.specs.declared.outside.Event.{Event}
 use Rattle.react_core.specs.declared.outside.Event.TheVariants as event
@@ -8,7 +8,6 @@ use Rattle.react_core.specs.Told.{told, Rose}
 use Rattle.bus_opening.specs.Talk.{Said}
 use Rattle.bus_opening.specs.Openings.{Opening, StandsIn}
 use Rattle.bus_session.specs.declared.ended.Ending.{Ending}
-use Rattle.bus_session.specs.declared.ended.Ending.TheVariants as ending
 use Rattle.bus_session.specs.declared.ended.Ended.{Ended}
 use Rattle.bus_session.specs.declared.session.Session.{Session}
 use Rattle.bus_visit.specs.declared.visiting.Slot.{Slot}

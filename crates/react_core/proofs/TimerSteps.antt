@@ -1,12 +1,12 @@
 -- The steps that insertions and removals of timers are.
-use Rattle.std.proofs.Common.{◌≡◌, ◌+◌, ◌≤◌, ◌<◌, ◌-◌, ◌^◌, ℕ, Bool, true, false, nat_lt, if◌then◌else◌, [], length, refl, arith}
+use Rattle.std.proofs.Common.{◌≡◌, ◌+◌, ◌≤◌, ◌<◌, ◌-◌, ◌^◌, Bool, true, false, nat_lt, if◌then◌else◌, [], length, refl, arith}
 use Rattle.react_timers.specs.declared.timer.TimerOp.{TimerOp}
 use Rattle.react_timers.specs.declared.timer.TimerOp.TheVariants.{Insert, Remove}
 use Rattle.react_timers.specs.Live.{insertions_of}
 use Rattle.react_core.specs.Core.{Core}
 use Rattle.react_core.specs.Step.{Draw, Push, Apply, Drew, Done}
 use Rattle.react_core.specs.Steps.{CoreSteps, no-steps, one-step, then-steps}
-use Rattle.react_core.specs.Timing.{queue_applied, queued, with_place, drawn, timer_inserted, timer_removed}
+use Rattle.react_core.specs.Timing.{queue_applied, queued, with_place, drawn}
 
 pub place-steps : (core : Core) → CoreSteps core (with_place core)
 place-steps core = of (nat_lt (length core.queue) 1000)

@@ -26,7 +26,12 @@ pub(crate) fn take_due(timers: &mut Timers, hands: &mut Vec<u64>, at: Option<u64
 }
 
 /// For how long a round may wait that has these tasks in hand at its begin, in nanoseconds; without an answer for ever.
-pub(crate) fn wait_limit(hands: &[u64], nearest: Option<u64>, now: u64, timeout: Option<u64>) -> Option<u64>
+pub(crate) fn wait_limit(
+    hands: &[u64],
+    nearest: Option<u64>,
+    now: u64,
+    timeout: Option<u64>,
+) -> Option<u64>
     ensures { result ≡ limit_by hands.now nearest now timeout }
 {
     if !hands.is_empty() {

@@ -54,7 +54,12 @@ impl Reactor {
 
     /// Queues the removal of the timer with this moment and number. Where there is none, it changes nothing. No memory
     /// is needed.
-    pub fn remove_timer(&mut self, _alloc: Global, when: u64, number: u64) -> Result<(), OutOfMemory>
+    pub fn remove_timer(
+        &mut self,
+        _alloc: Global,
+        when: u64,
+        number: u64,
+    ) -> Result<(), OutOfMemory>
         ensures ok { result ≡ Ok tt }
         ensures core { self.new ≡ record self.old { core = timer_removed self.old.core when number } }
         ensures steps { CoreSteps self.old.core self.new.core }

@@ -22,6 +22,6 @@ returns-in-Err-OutOfMemory-clause-steps g c =
     let number : c.in_ok-number.number - 1 ≡ old.made = omega (arith, c.in_ok-number.ensures.number) in
     let again : Core → Core = λ core. record core { made = c.in_ok-number.number - 1 } in
     let now = ap (λ (s : ReactorState). again s.core) (c.self.view_is ∙ c.in-Err-OutOfMemory.ensures.err)
-        ∙ ap (λ (s : ReactorState). again (with_place s.core)) c.in_ok-number.ensures.core
-        ∙ ap (λ n. record (with_place (drawn old)) { made = n }) number ∙ undrawn old in
+    ∙ ap (λ (s : ReactorState). again (with_place s.core)) c.in_ok-number.ensures.core
+    ∙ ap (λ n. record (with_place (drawn old)) { made = n }) number ∙ undrawn old in
     subst (λ core. CoreSteps old core) (sym now) (place-steps old)

@@ -1,5 +1,4 @@
 use Rattle.std.proofs.Common.{length, ap, arith}
-use Rattle.slab.specs.Slab.{entries}
 use Rattle.react_timers.specs.Live.{insertions}
 use Rattle.slab.proofs.SlabLemmas.{length-entries}
 use Rattle.react_core.proofs.TimerSteps.{one-at-most}
