@@ -185,3 +185,13 @@ pub record Asked {Origin : Type 0} (move : Move) (timer : TimerState) (answer : 
   pub keeps : Keeps part.Poller before after
   pub reports : new.events ≡ old.events
   pub steps : CoreSteps old.core new.core
+
+-- a setter of this moment and period that answers so: at Ok the timer has them, and a task that was kept is registered
+-- anew; where none was, the reactor isn't touched
+pub record IsSet {Origin : Type 0} (when period : Option ℕ) (answer : Result (Unit {0}) ReactError)
+    (before after : Outer Origin) (timer timer' : TimerState) (old new : ReactorState) : Type 0 where
+  pub done : OnOk answer (timer' ≡ timer_set old.core timer when period)
+  pub refused : OnErr answer (timer' ≡ timer)
+  pub task : kept_task timer'.kept ≡ kept_task timer.kept
+  pub untouched : kept_task timer.kept ≡ None → IsOk answer × (new ≡ old)
+  pub asked : Asked (setter_move timer when) timer answer before after old new

@@ -1,11 +1,11 @@
 //! Timers over a reactor that is handed in. Moments, periods and durations are nanoseconds.
-ghost use Rattle.std.specs.Prelude.{◌≡◌, ◌↔◌, ◌+◌, ◌≤◌, IsTrue, IsSome, IsOk, Some, None, Ok, IfOk, IfSome, OnOk, OnErr};
+ghost use Rattle.std.specs.Prelude.{◌≡◌, ◌↔◌, ◌+◌, ◌≤◌, IsTrue, IsSome, Some, None, Ok, IfOk, IfSome, OnOk, OnErr};
 ghost use Rattle.react_core.specs.Round.{answer_of};
 ghost use Rattle.react_core.specs.Steps.{CoreSteps};
 ghost use Rattle.react_async.specs.Polls.{IfReady, OnPending};
 ghost use Rattle.react_async.specs.Timers.{new_timer, sum_within, next_moment, kept_task, task_alone, is_for, kept_at};
-ghost use Rattle.react_async.specs.Timers.{unregistered, To, timer_moved, timer_cleared, core_cleared, setter_move};
-ghost use Rattle.react_async.specs.Timers.{timer_set, poll_answer, next_move, poll_move, pending_registrations, Asked};
+ghost use Rattle.react_async.specs.Timers.{unregistered, To, timer_moved, timer_cleared, core_cleared};
+ghost use Rattle.react_async.specs.Timers.{poll_answer, next_move, poll_move, pending_registrations, Asked, IsSet};
 
 use futures::task::Poll;
 use react_core::outside::{Notifier, OutOfMemory};
@@ -221,12 +221,8 @@ impl Timer {
         when: Option<u64>,
         period: Option<u64>,
     ) -> Result<(), ReactError>
-        ensures timer { OnOk result (self.new ≡ timer_set reactor.old.core self.old when period) }
-        ensures err { OnErr result (self.new ≡ self.old) }
-        ensures task { kept_task self.new.kept ≡ kept_task self.old.kept }
-        ensures untouched { kept_task self.old.kept ≡ None → IsOk result × reactor.new ≡ reactor.old }
-        ensures asked { Asked (setter_move self.old when) self.old result (N.outer notifier.old)
-            (N.outer notifier.new) reactor.old reactor.new }
+        ensures { IsSet when period result (N.outer notifier.old) (N.outer notifier.new) self.old self.new
+            reactor.old reactor.new }
     {
         let task = self.kept.task();
         self.move_to(alloc, reactor, notifier, when, task)?;
@@ -234,6 +230,71 @@ impl Timer {
             self.period = period;
         }
         Ok(())
+    }
+
+    /// Sets this moment, without a period. A task that is kept is registered anew, for the new moment alone; without
+    /// one the reactor isn't touched.
+    ///
+    /// Poller, Exhausted and OutOfMemory as at `Reactor::insert_timer`, where a task is kept; else there is no `Err`. The
+    /// timer stays as it was after every `Err`.
+    pub fn set_at<N: Notifier>(
+        &mut self,
+        alloc: Global,
+        reactor: &mut Reactor,
+        notifier: &mut N,
+        moment: u64,
+    ) -> Result<(), ReactError>
+        ensures { IsSet (Some moment) None result (N.outer notifier.old) (N.outer notifier.new) self.old self.new
+            reactor.old reactor.new }
+    {
+        self.set(alloc, reactor, notifier, Some(moment), None)
+    }
+
+    /// Sets the moment that comes so long after now, without a period, as `set_at` does. Where it passes `u64::MAX` the
+    /// timer is cleared, without an `Err`.
+    pub fn set_after<N: Notifier>(
+        &mut self,
+        alloc: Global,
+        reactor: &mut Reactor,
+        notifier: &mut N,
+        now: u64,
+        duration: u64,
+    ) -> Result<(), ReactError>
+        ensures { IsSet (sum_within now duration) None result (N.outer notifier.old) (N.outer notifier.new) self.old self.new
+            reactor.old reactor.new }
+    {
+        self.set(alloc, reactor, notifier, sum(now, duration), None)
+    }
+
+    /// Sets the moment that comes a period after now, and this period, as `set_at` does. Where it passes `u64::MAX` the
+    /// timer is cleared, without an `Err`.
+    pub fn set_interval<N: Notifier>(
+        &mut self,
+        alloc: Global,
+        reactor: &mut Reactor,
+        notifier: &mut N,
+        now: u64,
+        period: u64,
+    ) -> Result<(), ReactError>
+        ensures { IsSet (sum_within now period) (Some period) result (N.outer notifier.old) (N.outer notifier.new) self.old self.new
+            reactor.old reactor.new }
+    {
+        self.set(alloc, reactor, notifier, sum(now, period), Some(period))
+    }
+
+    /// Sets this first moment and this period, as `set_at` does.
+    pub fn set_interval_at<N: Notifier>(
+        &mut self,
+        alloc: Global,
+        reactor: &mut Reactor,
+        notifier: &mut N,
+        start: u64,
+        period: u64,
+    ) -> Result<(), ReactError>
+        ensures { IsSet (Some start) (Some period) result (N.outer notifier.old) (N.outer notifier.new) self.old self.new
+            reactor.old reactor.new }
+    {
+        self.set(alloc, reactor, notifier, Some(start), Some(period))
     }
 
     /// Clears the timer: removes its registration. The task stays kept, so that a setter registers the next moment for
@@ -335,5 +396,28 @@ impl Timer {
             self.move_to(alloc, reactor, notifier, Some(when), Some(task))?;
         }
         Ok(Poll::Pending)
+    }
+    /// Asks whether the timer's moment has come, as `poll_next` does: a timer with a period goes on to its next one.
+    ///
+    /// Poller, Exhausted and OutOfMemory as at `poll_next`.
+    pub fn poll<N: Notifier>(
+        &mut self,
+        alloc: Global,
+        reactor: &mut Reactor,
+        notifier: &mut N,
+        now: u64,
+        task: u64,
+    ) -> Result<Poll<u64>, ReactError>
+        ensures answer { IfOk result (λ answer. answer ≡ poll_answer self.old.when now) }
+        ensures early { IfReady result (λ moment. moment ≤ now) }
+        ensures waits { OnPending result (IfSome self.old.when (λ _. IsTrue (is_for self.new.kept task))) }
+        ensures once { OnPending result
+            (reactor.new.core.made ≡ reactor.old.core.made + pending_registrations self.old task) }
+        ensures timer { OnOk result (self.new ≡ timer_moved reactor.old.core self.old (poll_move self.old now task)) }
+        ensures err { OnErr result (self.new ≡ self.old) }
+        ensures asked { Asked (poll_move self.old now task) self.old (answer_of result) (N.outer notifier.old)
+            (N.outer notifier.new) reactor.old reactor.new }
+    {
+        self.poll_next(alloc, reactor, notifier, now, task)
     }
 }
