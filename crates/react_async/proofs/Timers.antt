@@ -1,6 +1,6 @@
 -- What a call of a timer asks of the reactor, from the calls that it makes.
-use Rattle.std.proofs.Common.{◌≡◌, ℕ, Option, None, Ok, refl, ap, ◌∙◌}
-use Rattle.react_core.specs.Core.{Core, ReactorState}
+use Rattle.std.proofs.Common.{◌≡◌, ℕ, Option, None, Ok, ap, ◌∙◌}
+use Rattle.react_core.specs.Core.{ReactorState}
 use Rattle.react_core.specs.Outer.{Outer}
 use Rattle.react_core.specs.Steps.{CoreSteps, then-steps}
 use Rattle.react_async.specs.Timers.{TimerState, new_timer, unregistered, To, Asked}

@@ -1,4 +1,4 @@
-//! Timers over a reactor that is handed in. Moments, periods and durations are nanoseconds.
+//! Timers over a reactor that is handed in. Their moments, periods and durations are in nanoseconds.
 ghost use Rattle.std.specs.Prelude.{◌≡◌, ◌↔◌, ◌+◌, ◌≤◌, IsTrue, IsSome, Some, None, Ok, IfOk, IfSome, OnOk, OnErr};
 ghost use Rattle.react_core.specs.Round.{answer_of};
 ghost use Rattle.react_core.specs.Steps.{CoreSteps};
@@ -17,7 +17,7 @@ use std::marker::Model;
 #[derive(Clone, Copy, Debug, PartialEq, Eq)]
 pub enum Kept {
     Nothing,
-    /// No moment is set. The next one is registered under this task.
+    /// No moment is set. The next one is to be registered for this task.
     Task(u64),
     /// The moment is registered under this number, for this task.
     Registered { number: u64, task: u64 },
@@ -67,7 +67,7 @@ fn sum(start: u64, length: u64) -> Option<u64>
 
 /// Inserts a timer with this moment for this task, where both are given. Answers what is to be kept of the task.
 ///
-/// Poller and Exhausted as at `Reactor::insert_timer`.
+/// Poller, Exhausted and OutOfMemory as at `Reactor::insert_timer`, where both are given; else there is no `Err`.
 fn register<N: Notifier>(
     alloc: Global,
     reactor: &mut Reactor,
@@ -106,8 +106,8 @@ fn unregister(
     Ok(())
 }
 
-/// A timer, which is Ready once its moment has come. Dropping it leaves its registration in the reactor; `cancel` ends
-/// both.
+/// A timer, which is Ready once its moment has come. Where a task is to be woken then, the moment is registered: the
+/// reactor has a timer with it for this task. Dropping it leaves its registration in the reactor; `cancel` ends both.
 #[derive(Debug, Drop)]
 pub struct Timer {
     when: Option<u64>,
@@ -137,7 +137,7 @@ impl Timer {
         }
     }
 
-    /// A timer with this moment.
+    /// A timer with this moment, in nanoseconds.
     pub fn at(moment: u64) -> Timer
         ensures { result ≡ new_timer (Some moment) None }
     {
@@ -148,7 +148,7 @@ impl Timer {
         }
     }
 
-    /// A timer with the moment that comes so long after now; without one where that passes `u64::MAX`.
+    /// A timer with the moment that comes so long after now, in nanoseconds; without one where it passes `u64::MAX`.
     pub fn after(now: u64, duration: u64) -> Timer
         ensures { result ≡ new_timer (sum_within now duration) None }
     {
@@ -158,8 +158,8 @@ impl Timer {
         }
     }
 
-    /// A timer with the moment that comes a period after now, and with this period; without a moment where that passes
-    /// `u64::MAX`.
+    /// A timer with the moment that comes a period after now, and with this period, in nanoseconds; without either where
+    /// the moment passes `u64::MAX`.
     pub fn interval(now: u64, period: u64) -> Timer
         ensures { result ≡ new_timer (sum_within now period) (Some period) }
     {
@@ -169,7 +169,7 @@ impl Timer {
         }
     }
 
-    /// A timer with this first moment, and with this period.
+    /// A timer with this first moment, and with this period, in nanoseconds.
     pub fn interval_at(start: u64, period: u64) -> Timer
         ensures { result ≡ new_timer (Some start) (Some period) }
     {
@@ -190,7 +190,7 @@ impl Timer {
 
 impl Timer {
     /// Gives the timer this moment, or none, and this task, or none, and registers it where both are given. Its old
-    /// registration is removed then.
+    /// registration is removed after that, since only an insertion can be refused.
     fn move_to<N: Notifier>(
         &mut self,
         alloc: Global,
@@ -232,11 +232,11 @@ impl Timer {
         Ok(())
     }
 
-    /// Sets this moment, without a period. A task that is kept is registered anew, for the new moment alone; without
-    /// one the reactor isn't touched.
+    /// Sets this moment, in nanoseconds, without a period. Where a task is kept the new moment is registered for it, and
+    /// the old one is no more; else the reactor isn't touched.
     ///
     /// Poller, Exhausted and OutOfMemory as at `Reactor::insert_timer`, where a task is kept; else there is no `Err`. The
-    /// timer stays as it was after every `Err`.
+    /// timer stays as it was after every `Err`, and the reactor is as `insert_timer` leaves it.
     pub fn set_at<N: Notifier>(
         &mut self,
         alloc: Global,
@@ -250,8 +250,8 @@ impl Timer {
         self.set(alloc, reactor, notifier, Some(moment), None)
     }
 
-    /// Sets the moment that comes so long after now, without a period, as `set_at` does. Where it passes `u64::MAX` the
-    /// timer is cleared, without an `Err`.
+    /// Sets the moment that comes so long after now, in nanoseconds, without a period, as `set_at` does. Where it passes
+    /// `u64::MAX` the timer is cleared, as `clear` does, and there is no `Err`.
     pub fn set_after<N: Notifier>(
         &mut self,
         alloc: Global,
@@ -266,8 +266,8 @@ impl Timer {
         self.set(alloc, reactor, notifier, sum(now, duration), None)
     }
 
-    /// Sets the moment that comes a period after now, and this period, as `set_at` does. Where it passes `u64::MAX` the
-    /// timer is cleared, without an `Err`.
+    /// Sets the moment that comes a period after now, and this period, in nanoseconds, as `set_at` does. Where it passes
+    /// `u64::MAX` the timer is cleared, as `clear` does, and there is no `Err`.
     pub fn set_interval<N: Notifier>(
         &mut self,
         alloc: Global,
@@ -282,7 +282,7 @@ impl Timer {
         self.set(alloc, reactor, notifier, sum(now, period), Some(period))
     }
 
-    /// Sets this first moment and this period, as `set_at` does.
+    /// Sets this first moment and this period, in nanoseconds, as `set_at` does.
     pub fn set_interval_at<N: Notifier>(
         &mut self,
         alloc: Global,
@@ -357,15 +357,15 @@ impl Timer {
         self.move_to(alloc, reactor, notifier, next, task)
     }
 
-    /// Asks whether the timer's moment has come, for a task that is to be woken otherwise.
+    /// Asks whether the timer's moment has come, for a task that is to be woken otherwise. Now is in nanoseconds.
     ///
-    /// Ready with the moment exactly where one is set that is at most `now`. Its registration is removed, and the next
-    /// moment, where there is a period and the sum doesn't pass `u64::MAX`, is registered for this task. Else Pending:
-    /// the moment, where one is set, is registered for this task, and for no other one; where it was already, it stays
-    /// under its number.
+    /// Ready with the moment exactly where one is set that is at most `now`. Its registration is removed, with the task
+    /// that was kept. The next moment comes a period after this one, and is registered for this task; without a period,
+    /// or where the sum passes `u64::MAX`, there is none. Else Pending: the moment, where one is set, is registered for
+    /// this task and no other; where it was already, it stays under its number.
     ///
     /// Poller, Exhausted and OutOfMemory as at `Reactor::insert_timer`, where a moment is to be registered; else there
-    /// is no `Err`. The timer stays as it was after every `Err`.
+    /// is no `Err`. The timer stays as it was after every `Err`, and the reactor is as `insert_timer` leaves it.
     pub fn poll_next<N: Notifier>(
         &mut self,
         alloc: Global,
