@@ -7,12 +7,14 @@ use Rattle.react_async.specs.Timers.{TimerState, new_timer, unregistered, To, As
 
 module _ {Origin : Type 0} where
   -- a registration, and then the removal of the timer's own
-  pub asked-then : (when task : Option ℕ) (timer : TimerState) (before after : Outer Origin) (old mid new : ReactorState) →
+  pub asked-then : (when task : Option ℕ) (timer : TimerState) (before after : Outer Origin)
+      (old mid new : ReactorState) →
       Asked (To when task) (new_timer None None) (Ok tt) before after old mid →
       new ≡ record mid { core = unregistered mid.core timer.when timer.kept } → CoreSteps mid.core new.core →
       Asked (To when task) timer (Ok tt) before after old new
   asked-then when task timer before after old mid new asked removed steps = record {
-    done = removed ∙ ap (λ (s : ReactorState). record s { core = unregistered s.core timer.when timer.kept }) asked.done;
+    done = removed
+        ∙ ap (λ (s : ReactorState). record s { core = unregistered s.core timer.when timer.kept }) asked.done;
     refused = tt;
     numbered = asked.numbered;
     gained = asked.gained;

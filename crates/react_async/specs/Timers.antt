@@ -1,5 +1,5 @@
--- A timer: what contracts see of it, and what setters, clears and polls make of it and of the reactor's core. Moments and
--- periods are nanoseconds.
+-- A timer: what contracts see of it, and what setters, clears and polls make of it and of the reactor's core. Moments
+-- and periods are nanoseconds.
 use Rattle.std.specs.Prelude.{◌≡◌, ◌+◌, ◌^◌, ◌==◌, ℕ, Bool, true, false, nat_lt, nat_le, if◌then◌else◌, []}
 use Rattle.std.specs.Prelude.{Option, Some, None, IsSome, Result, IsOk, OnOk, OnErr}
 use Rattle.futures.specs.declared.task.Poll.{Poll}

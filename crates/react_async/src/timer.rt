@@ -158,8 +158,8 @@ impl Timer {
         }
     }
 
-    /// A timer with the moment that comes a period after now, and with this period, in nanoseconds; without either where
-    /// the moment passes `u64::MAX`.
+    /// A timer with the moment that comes a period after now, and with this period, in nanoseconds; without either
+    /// where the moment passes `u64::MAX`.
     pub fn interval(now: u64, period: u64) -> Timer
         ensures { result ≡ new_timer (sum_within now period) (Some period) }
     {
@@ -221,8 +221,8 @@ impl Timer {
         when: Option<u64>,
         period: Option<u64>,
     ) -> Result<(), ReactError>
-        ensures { IsSet when period result (N.outer notifier.old) (N.outer notifier.new) self.old self.new
-            reactor.old reactor.new }
+        ensures { IsSet when period result (N.outer notifier.old) (N.outer notifier.new)
+            self.old self.new reactor.old reactor.new }
     {
         let task = self.kept.task();
         self.move_to(alloc, reactor, notifier, when, task)?;
@@ -232,11 +232,11 @@ impl Timer {
         Ok(())
     }
 
-    /// Sets this moment, in nanoseconds, without a period. Where a task is kept the new moment is registered for it, and
-    /// the old one is no more; else the reactor isn't touched.
+    /// Sets this moment, in nanoseconds, without a period. Where a task is kept the new moment is registered for it,
+    /// and the old one is no more; else the reactor isn't touched.
     ///
-    /// Poller, Exhausted and OutOfMemory as at `Reactor::insert_timer`, where a task is kept; else there is no `Err`. The
-    /// timer stays as it was after every `Err`, and the reactor is as `insert_timer` leaves it.
+    /// Poller, Exhausted and OutOfMemory as at `Reactor::insert_timer`, where a task is kept; else there is no `Err`.
+    /// The timer stays as it was after every `Err`, and the reactor is as `insert_timer` leaves it.
     pub fn set_at<N: Notifier>(
         &mut self,
         alloc: Global,
@@ -244,14 +244,14 @@ impl Timer {
         notifier: &mut N,
         moment: u64,
     ) -> Result<(), ReactError>
-        ensures { IsSet (Some moment) None result (N.outer notifier.old) (N.outer notifier.new) self.old self.new
-            reactor.old reactor.new }
+        ensures { IsSet (Some moment) None result (N.outer notifier.old) (N.outer notifier.new)
+            self.old self.new reactor.old reactor.new }
     {
         self.set(alloc, reactor, notifier, Some(moment), None)
     }
 
-    /// Sets the moment that comes so long after now, in nanoseconds, without a period, as `set_at` does. Where it passes
-    /// `u64::MAX` the timer is cleared, as `clear` does, and there is no `Err`.
+    /// Sets the moment that comes so long after now, in nanoseconds, without a period, as `set_at` does. Where it
+    /// passes `u64::MAX` the timer is cleared, as by `clear`, and there is no `Err`.
     pub fn set_after<N: Notifier>(
         &mut self,
         alloc: Global,
@@ -260,14 +260,14 @@ impl Timer {
         now: u64,
         duration: u64,
     ) -> Result<(), ReactError>
-        ensures { IsSet (sum_within now duration) None result (N.outer notifier.old) (N.outer notifier.new) self.old self.new
-            reactor.old reactor.new }
+        ensures { IsSet (sum_within now duration) None result (N.outer notifier.old) (N.outer notifier.new)
+            self.old self.new reactor.old reactor.new }
     {
         self.set(alloc, reactor, notifier, sum(now, duration), None)
     }
 
-    /// Sets the moment that comes a period after now, and this period, in nanoseconds, as `set_at` does. Where it passes
-    /// `u64::MAX` the timer is cleared, as `clear` does, and there is no `Err`.
+    /// Sets the moment that comes a period after now, and this period, in nanoseconds, as `set_at` does. Where it
+    /// passes `u64::MAX` the timer is cleared, as by `clear`, and there is no `Err`.
     pub fn set_interval<N: Notifier>(
         &mut self,
         alloc: Global,
@@ -276,8 +276,8 @@ impl Timer {
         now: u64,
         period: u64,
     ) -> Result<(), ReactError>
-        ensures { IsSet (sum_within now period) (Some period) result (N.outer notifier.old) (N.outer notifier.new) self.old self.new
-            reactor.old reactor.new }
+        ensures { IsSet (sum_within now period) (Some period) result (N.outer notifier.old) (N.outer notifier.new)
+            self.old self.new reactor.old reactor.new }
     {
         self.set(alloc, reactor, notifier, sum(now, period), Some(period))
     }
@@ -291,8 +291,8 @@ impl Timer {
         start: u64,
         period: u64,
     ) -> Result<(), ReactError>
-        ensures { IsSet (Some start) (Some period) result (N.outer notifier.old) (N.outer notifier.new) self.old self.new
-            reactor.old reactor.new }
+        ensures { IsSet (Some start) (Some period) result (N.outer notifier.old) (N.outer notifier.new)
+            self.old self.new reactor.old reactor.new }
     {
         self.set(alloc, reactor, notifier, Some(start), Some(period))
     }

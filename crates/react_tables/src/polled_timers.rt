@@ -7,8 +7,8 @@ use react_core::reactor::{Counter, ReactError, Reactor};
 use std::alloc::Global;
 use std::test::Fail;
 
-/// An outside that tells nothing. The count of its poller's faults stands at its type's end, where it may answer what it
-/// likes.
+/// An outside that tells nothing. The count of its poller's faults stands at its type's end, where it may answer what
+/// it likes.
 #[derive(Drop)]
 struct Noticed {
     /// What the next notice is refused for; the later ones go well.
