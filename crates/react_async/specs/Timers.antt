@@ -6,7 +6,8 @@ use Rattle.futures.specs.declared.task.Poll.{Poll}
 use Rattle.futures.specs.declared.task.Poll.TheVariants.{Ready, Pending}
 use Rattle.react_core.specs.declared.reactor.Counter.TheVariants as counter
 use Rattle.react_core.specs.declared.reactor.ReactError.{ReactError}
-use Rattle.react_core.specs.Core.{Core, ReactorState}
+use Rattle.react_timers.specs.Live.{task_at}
+use Rattle.react_core.specs.Core.{Core, ReactorState, timers_applied}
 use Rattle.react_core.specs.Outer.{Outer, Keeps}
 use Rattle.react_core.specs.Outer as part
 use Rattle.react_core.specs.Round.{NumberedBy, RoundCounted}
@@ -92,6 +93,17 @@ unregistered core (Some when) Nothing = core
 unregistered core (Some when) (Task task) = core
 unregistered core (Some when) (Registered number task) = timer_removed core when number
 
+abbrev pub standing_at : Core → Option ℕ → Kept → Option ℕ
+standing_at core None kept = None
+standing_at core (Some when) Nothing = None
+standing_at core (Some when) (Task task) = None
+standing_at core (Some when) (Registered number task) = task_at when number (timers_applied core)
+
+-- the task that the reactor is to wake at the timer's registration, once the queue is applied; none where it stands no
+-- more, or never did
+abbrev pub standing : Core → TimerState → Option ℕ
+standing core timer = standing_at core timer.when timer.kept
+
 -- ---- what a call makes of a timer and of the core
 
 pub data Move : Type 0 where
@@ -108,6 +120,11 @@ timer_moved core timer (To when task) = record timer { when = when; kept = kept_
 abbrev pub core_moved : Core → TimerState → Move → Core
 core_moved core timer Stay = core
 core_moved core timer (To when task) = unregistered (registered core when task) timer.when timer.kept
+
+-- the registration that the timer had stands no more, but where the timer stays as it is
+abbrev pub IsGone : Move → TimerState → Core → Type 0
+IsGone Stay timer new = Unit {0}
+IsGone (To when task) timer new = standing new timer ≡ None
 
 abbrev pub inserts : Move → Bool
 inserts Stay = false
@@ -173,11 +190,12 @@ abbrev pub NumberedWhere : Bool → Result (Unit {0}) ReactError → ℕ → Typ
 NumberedWhere true answer made = NumberedBy counter.Timer answer made
 NumberedWhere false answer made = IsOk answer
 
--- what holds of the reactor and of what it asks, where a call of this timer answers so: at Ok the core has moved; a
--- refusal is that of the insertion
+-- what holds of the reactor and of what it asks, where a call that makes this move of the timer answers so: at Ok the
+-- core has moved; a refusal is that of the insertion
 pub record Asked {Origin : Type 0} (move : Move) (timer : TimerState) (answer : Result (Unit {0}) ReactError)
     (before after : Outer Origin) (old new : ReactorState) : Type 0 where
   pub done : OnOk answer (new ≡ record old { core = core_moved old.core timer move })
+  pub gone : OnOk answer (IsGone move timer new.core)
   pub refused : OnErr answer (new ≡ record old { core = insertion_refused old.core answer })
   pub numbered : NumberedWhere (inserts move) answer old.core.made
   pub gained : after.events ≡ told before.events (if inserts move then insertion_told answer else [])

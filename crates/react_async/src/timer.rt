@@ -4,7 +4,7 @@ ghost use Rattle.react_core.specs.Round.{answer_of};
 ghost use Rattle.react_core.specs.Steps.{CoreSteps};
 ghost use Rattle.react_async.specs.Polls.{IfReady, OnPending};
 ghost use Rattle.react_async.specs.Timers.{new_timer, sum_within, next_moment, kept_task, task_alone, is_for, kept_at};
-ghost use Rattle.react_async.specs.Timers.{unregistered, To, timer_moved, timer_cleared, core_cleared};
+ghost use Rattle.react_async.specs.Timers.{standing, unregistered, To, timer_moved, timer_cleared, core_cleared};
 ghost use Rattle.react_async.specs.Timers.{poll_answer, next_move, poll_move, pending_registrations, Asked, IsSet};
 
 use futures::task::Poll;
@@ -126,6 +126,8 @@ impl Model for Timer {
 }
 
 impl Timer {
+    ghost use Rattle.react_async.specs.Timers.{IsKept};
+
     /// A timer without a moment.
     pub fn never() -> Timer
         ensures { result ≡ new_timer None None }
@@ -182,7 +184,8 @@ impl Timer {
 
     /// Whether a moment is set.
     pub fn will_fire(&self) -> bool
-        ensures { IsTrue result ↔ IsSome self.now.when }
+        ensures set { IsTrue result ↔ IsSome self.now.when }
+        ensures kept { IsKept self.now.when self.now.kept }
     {
         self.when.is_some()
     }
@@ -304,6 +307,7 @@ impl Timer {
         ensures timer { self.new ≡ timer_cleared self.old }
         ensures task { kept_task self.new.kept ≡ kept_task self.old.kept }
         ensures core { reactor.new ≡ record reactor.old { core = core_cleared reactor.old.core self.old } }
+        ensures gone { standing reactor.new.core self.old ≡ None }
         ensures steps { CoreSteps reactor.old.core reactor.new.core }
         ensures reports { reactor.new.events ≡ reactor.old.events }
     {
@@ -317,6 +321,7 @@ impl Timer {
     pub fn cancel(self, alloc: Global, reactor: &mut Reactor) -> Result<(), (Timer, OutOfMemory)>
         ensures ok { result ≡ Ok tt }
         ensures core { reactor.new ≡ record reactor.old { core = core_cleared reactor.old.core self } }
+        ensures gone { standing reactor.new.core self ≡ None }
         ensures steps { CoreSteps reactor.old.core reactor.new.core }
         ensures reports { reactor.new.events ≡ reactor.old.events }
     {
@@ -376,6 +381,7 @@ impl Timer {
     ) -> Result<Poll<u64>, ReactError>
         ensures answer { IfOk result (λ answer. answer ≡ poll_answer self.old.when now) }
         ensures early { IfReady result (λ moment. moment ≤ now) }
+        ensures gone { IfReady result (λ _. standing reactor.new.core self.old ≡ None) }
         ensures waits { OnPending result (IfSome self.old.when (λ _. IsTrue (is_for self.new.kept task))) }
         ensures once { OnPending result
             (reactor.new.core.made ≡ reactor.old.core.made + pending_registrations self.old task) }
@@ -397,6 +403,7 @@ impl Timer {
         }
         Ok(Poll::Pending)
     }
+
     /// Asks whether the timer's moment has come, as `poll_next` does: a timer with a period goes on to its next one.
     ///
     /// Poller, Exhausted and OutOfMemory as at `poll_next`.
@@ -410,6 +417,7 @@ impl Timer {
     ) -> Result<Poll<u64>, ReactError>
         ensures answer { IfOk result (λ answer. answer ≡ poll_answer self.old.when now) }
         ensures early { IfReady result (λ moment. moment ≤ now) }
+        ensures gone { IfReady result (λ _. standing reactor.new.core self.old ≡ None) }
         ensures waits { OnPending result (IfSome self.old.when (λ _. IsTrue (is_for self.new.kept task))) }
         ensures once { OnPending result
             (reactor.new.core.made ≡ reactor.old.core.made + pending_registrations self.old task) }
