@@ -1,5 +1,6 @@
 mod Waits
 mod Refused
+mod Timers
 pub mod Sources
 pub mod Ways
 pub mod Calls

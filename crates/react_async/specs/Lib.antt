@@ -3,3 +3,4 @@ pub mod Waits
 pub mod Operation
 pub mod Polls
 pub mod Telling
+pub mod Timers

@@ -8,6 +8,8 @@
 #[cfg(test)]
 mod polled;
 #[cfg(test)]
+mod polled_timers;
+#[cfg(test)]
 mod reactor;
 #[cfg(test)]
 mod timers;
