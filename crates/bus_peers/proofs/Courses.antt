@@ -1,21 +1,20 @@
 -- What a round does to the core, and a round of which nothing was refused.
-use Rattle.std.proofs.Common.{◌≡◌, ◌≢◌, ◌+◌, ℕ, append-nil, inl, inr, Bool, true, false, ◌||◌, is_some, List, [], ◌∷◌, ◌++◌, map, Option, Some, None, Result, Ok, Err, subst, refl, sym, ap, ◌∙◌}
+use Rattle.std.proofs.Common.{◌≡◌, ◌≢◌, ◌+◌, ℕ, append-nil, inl, inr, Bool, true, false, is_some, List, [], ◌∷◌, ◌++◌, map, Option, Some, None, Result, Ok, Err, subst, refl, sym, ap, ◌∙◌}
 use Rattle.react_core.specs.declared.outside.Event.{Event}
 use Rattle.react_core.specs.declared.outside.Event.TheVariants as event
 use Rattle.react_core.specs.declared.outside.Report.{Report}
-use Rattle.react_core.specs.declared.outside.Fault.{Fault}
 use Rattle.react_core.specs.declared.outside.Fault.TheVariants as fault
 use Rattle.react_core.specs.declared.outside.WaitAnswer.{WaitAnswer}
 use Rattle.react_core.specs.declared.outside.WaitAnswer.TheVariants as wait_answer
 use Rattle.react_core.specs.declared.reactor.ReactError.{ReactError}
 use Rattle.react_core.specs.declared.reactor.ReactError.TheVariants.{Poller, OutOfMemory, Exhausted}
 use Rattle.react_core.specs.Core.{Core, ReactorState, timers_applied}
-use Rattle.react_core.specs.Timing.{wait_limit, due_tasks}
-use Rattle.react_core.specs.Reports.{Arming, Try, LackSo, armed_told, after_reports, armings_by_all, taken_by_all, tries_told, try_answer, worse, worst}
+use Rattle.react_core.specs.Timing.{wait_limit}
+use Rattle.react_core.specs.Reports.{Arming, Try, LackSo, armed_told, after_reports, armings_by_all, taken_by_all, tries_told, worse, worst}
 use Rattle.react_core.specs.laws.Tries.{tries-ok}
 use Rattle.react_core.specs.Round.{Ran, Course, CourseSteps, Unread, Read, Pause, Unwaited, Waited, Reread, Unreread, is_quiet, pause_again, pause_reports, pause_told, reports_of}
 use Rattle.react_core.specs.Step.{WokeAll, begun_round, finish_wakes, finished_round}
-use Rattle.react_core.specs.Told.{told, modify_told}
+use Rattle.react_core.specs.Told.{told}
 use Rattle.bus_record.specs.Failing.{Made, is_failed}
 use Rattle.bus_peers.specs.inside.RoundEvents.{Round, IsRound, reading_told, round_told}
 use Rattle.bus_peers.proofs.MadeLemmas.{failed-after}

@@ -1,11 +1,8 @@
 -- A round of the call under way in which a call of the poller failed.
-use Rattle.std.proofs.Common.{◌≡◌, ◌≢◌, ◌<◌, ◌+◌, ℕ, Bool, true, List, [], ◌++◌, length, map, None, refl, sym, ◌∙◌, ap}
+use Rattle.std.proofs.Common.{◌≡◌, ◌≢◌, ◌<◌, ◌+◌, ℕ, Bool, List, [], ◌++◌, length, map, None, refl, sym, ◌∙◌, ap}
 use Rattle.std.proofs.Common.{Option, subst, arith}
-use Rattle.std.specs.List.{list_any, list_all}
-use Rattle.std.proofs.lemmas.Bool.{and_from}
-use Rattle.std.proofs.lemmas.List.Folds.{list_all-append}
+use Rattle.std.specs.List.{list_any}
 use Rattle.react_core.specs.declared.outside.Event.{Event}
-use Rattle.react_core.specs.declared.outside.Report.{Report}
 use Rattle.react_core.specs.Core.{Core}
 use Rattle.react_core.specs.Round.{reports_of}
 use Rattle.react_core.specs.Told.{told, told-told}
@@ -13,7 +10,6 @@ use Rattle.bus_session.specs.declared.session.Session.{Session}
 use Rattle.bus_session.specs.Sessions.{is_built}
 use Rattle.bus_record.specs.Pieces as pieces
 use Rattle.bus_record.specs.Pieces.{Pieces, ◌▸◌, round}
-use Rattle.bus_record.specs.Settled.{rearming}
 use Rattle.bus_record.specs.Failing.{Made, is_failed}
 use Rattle.bus_visit.specs.declared.visiting.Slot.{Slot}
 use Rattle.bus_visit.specs.Counts.{waits_in}
@@ -25,11 +21,11 @@ use Rattle.bus_peers.specs.inside.Failures.{RoundFailed, CallFails, in_round, Vi
 use Rattle.bus_peers.specs.inside.RoundEvents as round_events
 use Rattle.bus_peers.specs.inside.RoundEvents.{Round, round_told}
 use Rattle.bus_peers.specs.inside.Rounds.{Rounded}
-use Rattle.bus_peers.specs.inside.Slots.{Owned, AllBuilt, CallStands, CallStandsAfter, RoundKeepsCall}
+use Rattle.bus_peers.specs.inside.Slots.{Owned, AllBuilt, CallStands}
 use Rattle.bus_peers.proofs.CallRounds.{RoundsKeepCall, piece_of, told_by, one-wait, quiet-rearming, round-from, some-sleeper}
 use Rattle.bus_peers.proofs.FailingVisits.{stands-ticker}
 use Rattle.bus_peers.proofs.LeftSources.{left-same}
-use Rattle.bus_peers.proofs.MadeLemmas.{is_quiet_call, made-waits}
+use Rattle.bus_peers.proofs.MadeLemmas.{made-waits}
 use Rattle.bus_peers.proofs.RoundRearms.{rearming-same}
 use Rattle.bus_peers.proofs.SlotLemmas.{test-at}
 use Rattle.bus_peers.proofs.Standing.{all-rest}

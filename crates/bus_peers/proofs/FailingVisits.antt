@@ -11,28 +11,26 @@ use Rattle.bus_session.specs.Sessions.{is_built}
 use Rattle.bus_record.specs.Pieces as pieces
 use Rattle.bus_record.specs.Pieces.{Pieces}
 use Rattle.bus_record.specs.Places.{key_of, key_by, key_through}
-use Rattle.bus_record.specs.Visits.{Visit, here, starts, goes_on}
+use Rattle.bus_record.specs.Visits.{Visit}
 use Rattle.bus_record.specs.Settled.{Run, removal}
-use Rattle.bus_record.specs.Failing.{Made, mended, key_left, FailsInVisit}
+use Rattle.bus_record.specs.Failing.{Made, FailsInVisit}
 use Rattle.bus_visit.specs.declared.visiting.Slot.{Slot}
 use Rattle.bus_visit.specs.declared.visiting.Slot.TheVariants as slot
 use Rattle.bus_visit.specs.declared.visiting.Sleeper.{Sleeper}
 use Rattle.bus_visit.specs.Calls.{AreCalls}
 use Rattle.bus_visit.specs.Counts.{waits_in}
-use Rattle.bus_visit.specs.Dialled.{Answered, dials_of, opening}
+use Rattle.bus_visit.specs.Dialled.{dials_of, opening}
 use Rattle.bus_visit.specs.Failing.{RemovalTold, EndFails, unarmed, undeleted, RegisteredVisitFails, RegisteredFails}
 use Rattle.bus_visit.specs.Failing.{OpenedFails, unregistered, registered, FirstVisitFails}
 use Rattle.bus_visit.specs.Registry.{held_at}
-use Rattle.bus_visit.specs.Shown.{shown, tags, tag_at, without_tag, has_wire}
+use Rattle.bus_visit.specs.Shown.{shown, tags, tag_at, without_tag}
 use Rattle.bus_visit.specs.Visited.{RegisteredVisit, tail_of}
 use Rattle.bus_visit.specs.laws.Dials.{dials-still, opening-fold, opening-waits, dials-waits}
 use Rattle.bus_visit.specs.laws.Records.{waits_in-append}
 use Rattle.bus_peers.specs.inside.Closing.{counting}
 use Rattle.bus_peers.specs.inside.Failures.{LeftBut, ToldSince, CallFails, in_visit, VisitsFailCall}
-use Rattle.bus_peers.specs.inside.Shows.{Shows}
 use Rattle.bus_peers.specs.inside.Slots.{Owned, AllBuilt, CallStands, CallStandsAfter, Stands, IsNew, VisitsKeepCall}
 use Rattle.bus_peers.proofs.LeftSources.{left-new, left-without}
-use Rattle.bus_peers.proofs.MadeLemmas.{made-one}
 use Rattle.bus_peers.proofs.OtherWires.{unvisited}
 use Rattle.bus_peers.proofs.SlotLemmas.{test-at, no_wire-above, owns-at}
 use Rattle.bus_peers.proofs.Standing.{stand-at, get-take}

@@ -1,14 +1,7 @@
 -- What visits and rounds keep of the outside, and which counts they raise.
-use Rattle.std.proofs.Common.{◌≡◌, ◌+◌, ℕ, Bool, true, false, if◌then◌else◌, List, [], ◌∷◌, ◌++◌, length, Option, Some, None, Result, Ok, Err, slice_set, zero, suc, refl, sym, ap, ◌∙◌, subst, arith}
+use Rattle.std.proofs.Common.{◌≡◌, ◌+◌, ℕ, List, [], ◌∷◌, ◌++◌, length, Option, Result, Ok, Err, slice_set, zero, suc, sym, ap, ◌∙◌, subst, arith}
 use Rattle.std.specs.Prelude.{IfOk, OnErr}
 use Rattle.react_core.specs.Core.{Core}
-use Rattle.react_core.specs.Readiness.{Outcome, Fires, Stays, Begins, after_source_poll, poll_outcome}
-use Rattle.react_core.specs.Futures.{is_fired, with_future, with_direction, after_source_future, after_source_cancel}
-use Rattle.react_core.specs.Sources.{side, source_of}
-use Rattle.react_core.specs.Places.{Source}
-use Rattle.react_core.specs.declared.reactor.Dir.{Dir}
-use Rattle.react_core.specs.Step.{Kind, Answer, Step, PolledPoll, FuturePoll, Cancel, Insert, Remove, Begin, Return, Finish, Polled, Done}
-use Rattle.react_core.specs.Steps.{Steps, CoreSteps}
 use Rattle.react_core.specs.Outer.{Outer, Keeps, visit-in-all, round-in-all}
 use Rattle.react_core.specs.Outer as part
 use Rattle.bus_session.specs.declared.ended.Ended.{Ended}

@@ -2,9 +2,8 @@
 use Rattle.std.proofs.Common.{◌≡◌, ◌≤◌, ◌<◌, ◌^◌, ℕ, ◌+◌, Bool, true, List, [], ◌∷◌, ◌++◌, length, map, take, Option, Result, Ok, Err, IsErrAnd, refl, sym, ◌∙◌, ap, subst, arith, append_assoc}
 use Rattle.std.specs.Prelude.{IfOk, OnErr}
 use Rattle.std.specs.List.{list_all}
-use Rattle.std.proofs.lemmas.Bool.{both_ways, and_parts, and_from}
+use Rattle.std.proofs.lemmas.Bool.{and_from}
 use Rattle.react_core.specs.declared.outside.Event.{Event}
-use Rattle.react_core.specs.declared.outside.Event.TheVariants as event
 use Rattle.react_core.specs.Core.{Core, ReactorState}
 use Rattle.react_core.specs.Told.{told, told-told, told-nothing, Rose}
 use Rattle.bus_session.specs.declared.ended.Ended.{Ended}

@@ -1,6 +1,4 @@
-use Rattle.std.proofs.Common.{◌≡◌, List, length, map, true, OnOk}
-use Rattle.std.specs.List.{list_all}
-use Rattle.react_core.specs.declared.outside.Event.{Event}
+use Rattle.std.proofs.Common.{◌≡◌, length, map, OnOk}
 use Rattle.react_core.specs.Outer.{Keeps}
 use Rattle.react_core.specs.Outer as part
 use Rattle.react_core.specs.Told.{told}

@@ -1,4 +1,4 @@
-use Rattle.std.proofs.Common.{rules, ◌≡◌, ◌≢◌, inl, inr, Bool, true, false, [], None, ◌∙◌, arith}
+use Rattle.std.proofs.Common.{rules, ◌≡◌, ◌≢◌, inl, inr, Bool, true, false, [], ◌∙◌, arith}
 use Rattle.std.proofs.lemmas.Bool.{both_ways}
 use Rattle.react_core.specs.Core.{Core, IsIdle}
 use Rattle.bus_visit.specs.Shown.{IsBetweenCalls}
