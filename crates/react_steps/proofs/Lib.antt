@@ -11,3 +11,4 @@ pub mod Turning
 pub mod Tidying
 pub mod Laws
 pub mod Covering
+pub mod Sharpness

@@ -1,5 +1,6 @@
 //! The world of all parties, and lists of steps from the idle world.
 ghost use Rattle.std.specs.Prelude.{◌≡◌, [], ◌∷◌, ◌++◌, reverse, IfOk, OnOk, IfErr};
+ghost use Rattle.react_steps.specs.Accounts.{Accounted};
 ghost use Rattle.react_steps.specs.History.{Run, kinds_of, IsRefused, IsRefusedNext};
 ghost use Rattle.react_steps.specs.Interests.{ReadyExactly};
 ghost use Rattle.react_steps.specs.World.{idle};
@@ -92,6 +93,7 @@ pub fn run_steps(alloc: Global, kinds: Vec<Kind>) -> Result<World, StepError>
     ensures kinds { IfOk result (λ w. kinds_of w.history ≡ kinds.items) }
     ensures run { IfOk result (λ w. Run (reverse w.history) w.world) }
     ensures ready { IfOk result (λ w. ReadyExactly (reverse w.history)) }
+    ensures accounted { IfOk result (λ w. Accounted (reverse w.history) w.world) }
     ensures disabled { IfErr result (IsRefused kinds.items) }
 {
     let mut world = World::idle(alloc);

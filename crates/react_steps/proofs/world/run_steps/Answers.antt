@@ -3,10 +3,14 @@ use Rattle.std.proofs.lemmas.Result.{err_from_is_err_and}
 use Rattle.react_steps.specs.History.{kinds_of}
 use Rattle.react_steps.proofs.Histories.{refused-next}
 use Rattle.react_steps.proofs.Laws.{ready-run}
+use Rattle.react_steps.proofs.Sharpness.{accounted-run}
 use Rattle.react_steps.proofs.world.run_steps.Goals as goal
 
 pub returns-clause-ready : goal.returns-clause-ready
 returns-clause-ready c = ready-run (reverse c.loop-kind.world.history) c.loop-kind.world.world c.loop-kind.invariant.run
+
+pub returns-clause-accounted : goal.returns-clause-accounted
+returns-clause-accounted c = accounted-run (reverse c.loop-kind.world.history) c.loop-kind.world.world c.loop-kind.invariant.run
 
 pub returns-in_err-world-clause-disabled : goal.returns-in_err-world-clause-disabled
 returns-in_err-world-clause-disabled c =
