@@ -1,16 +1,16 @@
 -- The steps and the views of places agree, step by step.
-use Rattle.std.proofs.Common.{◌≡◌, ℕ, ◌+◌, ◌<◌, ◌≤◌, Bool, true, false, true≢false, List, [], ◌∷◌, Option, Some, None, is_some, refl, sym, ap, ◌∙◌, subst, arith}
-use Rattle.std.specs.Prelude.{◌==◌, nat_lt, ◌&&◌, ◌||◌, if◌then◌else◌}
-use Rattle.std.proofs.lemmas.Bool.{lt-ltb, le-ltb, ltb-true, eqb-true}
+use Rattle.std.proofs.Common.{◌≡◌, ℕ, ◌+◌, ◌≤◌, Bool, true, false, true≢false, List, ◌∷◌, Option, Some, None, refl, sym, ap, ◌∙◌, subst, arith}
+use Rattle.std.specs.Prelude.{nat_lt, ◌&&◌, ◌||◌, if◌then◌else◌}
+use Rattle.std.proofs.lemmas.Bool.{lt-ltb, ltb-true, eqb-true}
 use Rattle.react_core.specs.declared.reactor.Dir.{Dir}
 use Rattle.react_core.specs.Places.{Entry, round_number}
 use Rattle.react_core.specs.Readiness.{fresh_at, stored_task}
 use Rattle.react_core.specs.Reports.{without_task}
 use Rattle.react_steps.specs.declared.kind.Taken.{Taken}
-use Rattle.react_steps.specs.Interests.{told, told_by, waiting, waiting_by, is_task, and_since, begins, after_pending, since_by, since_interest}
-use Rattle.react_steps.specs.Interests.{has_begun, begun_by, has_named, named_by, has_round, is_end, is_due, AnswersBy}
+use Rattle.react_steps.specs.Interests.{told, told_by, waiting, waiting_by, is_task, and_since, after_pending, since_by, since_interest}
+use Rattle.react_steps.specs.Interests.{has_begun, has_named, has_round, is_due, AnswersBy}
 use Rattle.react_steps.specs.Sights.{Place, ThePolled, OfFuture, Spot, Sight, ReadyThere, PendingThere, GivenUp, NewSource, SourceGone, RoundBegins, WaitReturns, RoundEnds, Elsewhere, sight}
-use Rattle.react_steps.proofs.Views.{View, Turn, polled_entry, Interested, Since, Agree, begun-is, named-is, round-is, interested-on, since-on, begins-now, due-is, fresh-calm}
+use Rattle.react_steps.proofs.Views.{View, Turn, polled_entry, Since, Agree, begun-is, named-is, round-is, interested-on, since-on, begins-now, due-is, fresh-calm}
 
 pub cases : (b : Bool) (P : Bool → Type 0) → (b ≡ true → P true) → (b ≡ false → P false) → P b
 cases true P t f = t refl
@@ -146,8 +146,8 @@ module _ (key : ℕ) (dir : Dir) where
   end-at place t past old true true n h o is a =
       let q = at key dir place in
       let s : Since q (since_interest q past) old.entry old.reported old.ticker true true =
-          subst (λ b. Since q (since_interest q past) old.entry old.reported old.ticker b true) o
-          (subst (λ b. Since q (since_interest q past) old.entry old.reported old.ticker old.is_open b) n a.since) in
+      subst (λ b. Since q (since_interest q past) old.entry old.reported old.ticker b true) o
+      (subst (λ b. Since q (since_interest q past) old.entry old.reported old.ticker old.is_open b) n a.since) in
       by-sight place t past RoundEnds _ is refl (ap (λ b. if b then None else waiting q past) (a.told ∙ n) ∙ sym (stored-without old.entry))
       (end-named place t (since_interest q past) old.entry old.reported old.ticker is a.dated s) (omega arith) (λ none. absurd (true≢false (sym h ∙ none)))
   end-at place t past old true false n h o is a =
@@ -166,8 +166,8 @@ module _ (key : ℕ) (dir : Dir) where
   end-at place t past old false has n h o is a =
       let q = at key dir place in
       let s : Since q (since_interest q past) old.entry old.reported old.ticker true false =
-          subst (λ b. Since q (since_interest q past) old.entry old.reported old.ticker b false) o
-          (subst (λ b. Since q (since_interest q past) old.entry old.reported old.ticker old.is_open b) n a.since) in
+      subst (λ b. Since q (since_interest q past) old.entry old.reported old.ticker b false) o
+      (subst (λ b. Since q (since_interest q past) old.entry old.reported old.ticker old.is_open b) n a.since) in
       by-sight place t past RoundEnds _ is refl (ap (λ b. if b then None else waiting q past) (a.told ∙ n) ∙ a.waits)
       (end-unnamed place t (since_interest q past) old.entry old.reported old.ticker is s) a.dated a.empty
 
@@ -182,9 +182,9 @@ module _ (key : ℕ) (dir : Dir) where
       let P : Option (List Taken) → Type 0 = λ o. Since q o old.entry old.reported old.ticker old.is_open old.named in
       subst (Agree q (t ∷ past)) (sym (turn.stays b))
       (by-sight ThePolled t past (PendingThere task) old is a.told (sym (is_task-true task (stored_task old.entry) b))
-        (subst P (sym (ap (λ x. after_pending (if x then false else true) t (since_interest q past)) same))
-          (since-on q t (PendingThere task) is (λ x. refl) (λ x y. refl) refl (since_interest q past) old.entry old.reported old.ticker old.is_open old.named a.since))
-        a.dated a.empty)
+      (subst P (sym (ap (λ x. after_pending (if x then false else true) t (since_interest q past)) same))
+      (since-on q t (PendingThere task) is (λ x. refl) (λ x y. refl) refl (since_interest q past) old.entry old.reported old.ticker old.is_open old.named a.since))
+      a.dated a.empty)
   pending-polled t past task woken old new false b is turn a =
       let q = at key dir ThePolled in
       let other : is_task task (waiting q past) ≡ false = ap (is_task task) a.waits ∙ b in
@@ -192,8 +192,8 @@ module _ (key : ℕ) (dir : Dir) where
       let P : Option (List Taken) → Type 0 = λ o. Since q o (Some e) old.reported old.ticker old.is_open old.named in
       subst (Agree q (t ∷ past)) (sym (turn.anew b))
       (by-sight ThePolled t past (PendingThere task) (record old { entry = Some e }) is a.told refl
-        (subst P (sym (ap (λ x. after_pending (if x then false else true) t (since_interest q past)) other)) (begins-now q task old.reported old.ticker old.is_open old.named a.dated))
-        a.dated (λ none. absurd (true≢false (sym turn.known ∙ none))))
+      (subst P (sym (ap (λ x. after_pending (if x then false else true) t (since_interest q past)) other)) (begins-now q task old.reported old.ticker old.is_open old.named a.dated))
+      a.dated (λ none. absurd (true≢false (sym turn.known ∙ none))))
 
   future-since : (n : ℕ) (t : Taken) (task : ℕ) (waits : Option ℕ) (since : Option (List Taken)) (e : Option Entry) (reported : Option ℕ) (ticker : ℕ) (is_open named : Bool) →
       sight (at key dir (OfFuture n)) t ≡ PendingThere task → round_number reported ≤ ticker → fresh_at reported e ≡ false →
@@ -232,21 +232,21 @@ module _ (key : ℕ) (dir : Dir) where
       let q = at key dir (OfFuture n) in
       subst (Agree q (t ∷ past)) (sym turn.view)
       (by-sight (OfFuture n) t past (ReadyThere task) old is a.told (sym (fresh-calm q (since_interest q past) old.entry old.reported old.ticker old.is_open old.named a.since turn.due))
-        (since-on q t (ReadyThere task) is (λ x. refl) (λ x y. refl) refl (since_interest q past) old.entry old.reported old.ticker old.is_open old.named a.since) a.dated a.empty)
+      (since-on q t (ReadyThere task) is (λ x. refl) (λ x y. refl) refl (since_interest q past) old.entry old.reported old.ticker old.is_open old.named a.since) a.dated a.empty)
   agree-step ThePolled t past (PendingThere task) woken old new is turn a = pending-polled t past task woken old new (is_task task (stored_task old.entry)) refl is turn a
   agree-step (OfFuture n) t past (PendingThere task) woken old new is turn a =
       let q = at key dir (OfFuture n) in
       subst (Agree q (t ∷ past)) (sym turn.view)
       (by-sight (OfFuture n) t past (PendingThere task) (record old { entry = polled_entry old.ticker task old.entry }) is a.told (sym (stored-polled old.ticker task old.entry))
-        (future-since n t task (waiting q past) (since_interest q past) old.entry old.reported old.ticker old.is_open old.named is a.dated turn.due a.since)
-        a.dated (λ none. absurd (true≢false (sym turn.known ∙ none))))
+      (future-since n t task (waiting q past) (since_interest q past) old.entry old.reported old.ticker old.is_open old.named is a.dated turn.due a.since)
+      a.dated (λ none. absurd (true≢false (sym turn.known ∙ none))))
   agree-step place t past GivenUp woken old new is turn a =
       subst (Agree (at key dir place) (t ∷ past)) (sym turn) (by-sight place t past GivenUp (record old { entry = None }) is a.told refl tt a.dated (λ none. refl))
   agree-step place t past NewSource woken old new is turn a =
       let q = at key dir place in
       subst (Agree q (t ∷ past)) (sym turn.view)
       (by-sight place t past NewSource (record old { has = true }) is a.told (sym (ap stored_task turn.free))
-        (subst (λ e. Since q None e old.reported old.ticker old.is_open old.named) (sym turn.free) tt) a.dated (λ none. absurd (true≢false none)))
+      (subst (λ e. Since q None e old.reported old.ticker old.is_open old.named) (sym turn.free) tt) a.dated (λ none. absurd (true≢false none)))
   agree-step place t past SourceGone woken old new is turn a =
       subst (Agree (at key dir place) (t ∷ past)) (sym turn)
       (by-sight place t past SourceGone (record old { entry = None; reported = None; has = false }) is a.told refl tt (omega arith) (λ none. refl))
@@ -254,19 +254,19 @@ module _ (key : ℕ) (dir : Dir) where
       let q = at key dir place in
       subst (Agree q (t ∷ past)) (sym turn.view)
       (by-sight place t past RoundBegins (record old { ticker = old.ticker + 1; is_open = true; named = false }) is refl a.waits
-        (begin-since place t (since_interest q past) old.entry old.reported old.ticker old.is_open old.named is a.since) (omega (arith, a.dated)) a.empty)
+      (begin-since place t (since_interest q past) old.entry old.reported old.ticker old.is_open old.named is a.since) (omega (arith, a.dated)) a.empty)
   agree-step place t past (WaitReturns n) woken old new is turn a =
       let q = at key dir place in
       subst (Agree q (t ∷ past)) (sym turn)
       (by-sight place t past (WaitReturns n) (record old { named = n }) is refl a.waits
-        (return-since place t (since_interest q past) old.entry old.reported old.ticker old.is_open old.named n is a.since) a.dated a.empty)
+      (return-since place t (since_interest q past) old.entry old.reported old.ticker old.is_open old.named n is a.since) a.dated a.empty)
   agree-step place t past RoundEnds woken old new is turn a =
       subst (Agree (at key dir place) (t ∷ past)) (sym turn.view) (end-at place t past old old.named old.has refl refl turn.running is a)
   agree-step place t past Elsewhere woken old new is turn a =
       let q = at key dir place in
       subst (Agree q (t ∷ past)) (sym turn)
       (by-sight place t past Elsewhere old is a.told a.waits
-        (since-on q t Elsewhere is (λ x. refl) (λ x y. refl) refl (since_interest q past) old.entry old.reported old.ticker old.is_open old.named a.since) a.dated a.empty)
+      (since-on q t Elsewhere is (λ x. refl) (λ x y. refl) refl (since_interest q past) old.entry old.reported old.ticker old.is_open old.named a.since) a.dated a.empty)
 
   pub answer-step : (place : Place) (past : List Taken) (s : Sight) (woken : List ℕ) (old new : View) → Turn place s woken old new → Agree (at key dir place) past old →
       AnswersBy s (is_due (at key dir place) (since_interest (at key dir place) past))

@@ -1,6 +1,5 @@
 -- Futures' tasks, as they are cleared one place after another.
-use Rattle.std.proofs.Common.{◌≡◌, ℕ, zero, suc, ◌<◌, ◌≤◌, ◌+◌, List, [], ◌∷◌, None, length, get_or, set, refl, ap, arith}
-use Rattle.std.specs.Prelude.{slice_set}
+use Rattle.std.proofs.Common.{◌≡◌, ℕ, zero, suc, ◌<◌, ◌≤◌, List, [], ◌∷◌, None, length, get_or, set, refl, ap, arith}
 use Rattle.react_core.specs.Places.{Entry}
 use Rattle.react_core.specs.Reports.{without_tasks}
 

@@ -1,5 +1,5 @@
 -- What the reports of a round's end do to one direction, and whom they wake.
-use Rattle.std.proofs.Common.{◌≡◌, ℕ, ◌+◌, Bool, true, false, true≢false, List, [], ◌∷◌, ◌++◌, Option, Some, None, is_some, refl, sym, ap, ◌∙◌, subst}
+use Rattle.std.proofs.Common.{◌≡◌, ℕ, Bool, true, false, true≢false, List, [], ◌∷◌, ◌++◌, Option, Some, None, is_some, refl, sym, ap, ◌∙◌, subst}
 use Rattle.std.specs.Prelude.{◌==◌, ◌&&◌, ◌||◌, if◌then◌else◌}
 use Rattle.std.specs.Option.{option_to_list}
 use Rattle.std.proofs.lemmas.Bool.{eqb-true, eq-eqb}
@@ -7,16 +7,15 @@ use Rattle.react_core.specs.declared.outside.Report.{Report}
 use Rattle.react_core.specs.declared.reactor.Dir.{Dir}
 use Rattle.react_core.specs.declared.reactor.Dir.TheVariants.{Read, Write}
 use Rattle.react_core.specs.Futures.{direction_of}
-use Rattle.react_core.specs.Keyed.{at_key, with_at}
+use Rattle.react_core.specs.Keyed.{at_key}
 use Rattle.react_core.specs.Places.{Entry, Direction, Source}
 use Rattle.react_core.specs.Readiness.{stored_task}
 use Rattle.react_core.specs.Reports.{without_task, without_tasks, marked, task_of, future_tasks, tasks_of, taken_of, reported, after_report_of, after_report, after_reports, taken_by_of, taken_by, taken_by_all}
-use Rattle.react_core.specs.Sources.{source_of, with_source, side}
+use Rattle.react_core.specs.Sources.{source_of}
 use Rattle.react_core.proofs.Keyed.{at_key-with_at}
 use Rattle.react_steps.specs.Accounts.{entry_at, contains}
 use Rattle.react_steps.specs.Sights.{Place, ThePolled, OfFuture, names_one, names}
 use Rattle.react_steps.proofs.Agreeing.{cases}
-use Rattle.react_steps.proofs.Moves.{if-true, if-false}
 
 -- ---- marks
 
@@ -45,17 +44,17 @@ after-one : (t : ℕ) (sources : List (ℕ × Source)) (r : Report) (o : Option 
     source_of (after_report_of t sources r o) k ≡ (if r.key == k then marked_source t (r ∷ []) k (source_of sources k) else source_of sources k)
 after-one t sources r None k is =
     cases (r.key == k) (λ b. source_of sources k ≡ (if b then marked_source t (r ∷ []) k (source_of sources k) else source_of sources k))
-      (λ same. let none : source_of sources k ≡ None = ap (source_of sources) (sym (eqb-true r.key k same)) ∙ is in none ∙ sym (ap (marked_source t (r ∷ []) k) none))
-      (λ differs. refl)
+    (λ same. let none : source_of sources k ≡ None = ap (source_of sources) (sym (eqb-true r.key k same)) ∙ is in none ∙ sym (ap (marked_source t (r ∷ []) k) none))
+    (λ differs. refl)
 after-one t sources r (Some s) k is =
     at_key-with_at sources r.key k (reported t r s) (ap is_some is)
     ∙ cases (r.key == k) (λ b. (r.key == k) ≡ b → (if b then Some (reported t r s) else source_of sources k) ≡ (if b then marked_source t (r ∷ []) k (source_of sources k) else source_of sources k))
-      (λ same was.
-        let some : source_of sources k ≡ Some s = ap (source_of sources) (sym (eqb-true r.key k same)) ∙ is in
-        sym (ap (marked_source t (r ∷ []) k) some ∙ ap (λ b. Some (record s { read = marked ((b && r.read) || false) t s.read; write = marked ((b && r.write) || false) t s.write })) was
-          ∙ ap (λ b. Some (record s { read = marked b t s.read; write = marked (r.write || false) t s.write })) (or-false r.read)
-          ∙ ap (λ b. Some (record s { read = marked r.read t s.read; write = marked b t s.write })) (or-false r.write)))
-      (λ differs was. refl) refl
+    (λ same was.
+    let some : source_of sources k ≡ Some s = ap (source_of sources) (sym (eqb-true r.key k same)) ∙ is in
+    sym (ap (marked_source t (r ∷ []) k) some ∙ ap (λ b. Some (record s { read = marked ((b && r.read) || false) t s.read; write = marked ((b && r.write) || false) t s.write })) was
+    ∙ ap (λ b. Some (record s { read = marked b t s.read; write = marked (r.write || false) t s.write })) (or-false r.read)
+    ∙ ap (λ b. Some (record s { read = marked r.read t s.read; write = marked b t s.write })) (or-false r.write)))
+    (λ differs was. refl) refl
   where
     or-false : (b : Bool) → (b || false) ≡ b
     or-false true = refl
@@ -66,9 +65,9 @@ both-marks : (t : ℕ) (r : Report) (reports : List Report) (k : ℕ) (o : Optio
 both-marks t r reports k None same = refl
 both-marks t r reports k (Some s) same =
     ap (λ d. Some (record s { read = d; write = marked (names reports k Write) t (marked ((r.key == k && r.write) || false) t s.write) }))
-      (marked-twice ((r.key == k && r.read) || false) (names reports k Read) t s.read ∙ ap (λ b. marked b t s.read) (or-assoc (r.key == k && r.read) (names reports k Read)))
+    (marked-twice ((r.key == k && r.read) || false) (names reports k Read) t s.read ∙ ap (λ b. marked b t s.read) (or-assoc (r.key == k && r.read) (names reports k Read)))
     ∙ ap (λ d. Some (record s { read = marked ((r.key == k && r.read) || names reports k Read) t s.read; write = d }))
-      (marked-twice ((r.key == k && r.write) || false) (names reports k Write) t s.write ∙ ap (λ b. marked b t s.write) (or-assoc (r.key == k && r.write) (names reports k Write)))
+    (marked-twice ((r.key == k && r.write) || false) (names reports k Write) t s.write ∙ ap (λ b. marked b t s.write) (or-assoc (r.key == k && r.write) (names reports k Write)))
   where
     or-assoc : (a b : Bool) → ((a || false) || b) ≡ (a || b)
     or-assoc true b = refl
@@ -89,7 +88,7 @@ reports-at t sources (r ∷ reports) k =
     reports-at t (after_report t sources r) reports k
     ∙ ap (marked_source t reports k) (after-one t sources r (source_of sources r.key) k refl)
     ∙ cases (r.key == k) (λ b. (r.key == k) ≡ b → marked_source t reports k (if b then marked_source t (r ∷ []) k (source_of sources k) else source_of sources k) ≡ marked_source t (r ∷ reports) k (source_of sources k))
-      (λ same was. both-marks t r reports k (source_of sources k) was) (λ differs was. unnamed-first t r reports k (source_of sources k) was) refl
+    (λ same was. both-marks t r reports k (source_of sources k) was) (λ differs was. unnamed-first t r reports k (source_of sources k) was) refl
 
 side-marked : (t : ℕ) (reports : List Report) (k : ℕ) (e : Dir) (o : Option Source) → direction_of (marked_source t reports k o) e ≡ (if is_some o then marked (names reports k e) t (direction_of o e) else direction_of o e)
 side-marked t reports k Read None = refl
@@ -141,8 +140,8 @@ contains-future : (x n : ℕ) (fs : List (ℕ × Entry)) → stored_task (at_key
 contains-future x n [] is = absurd (cc)
 contains-future x n (f ∷ fs) is =
     cases (f.0 == n) (λ b. stored_task (if b then Some f.1 else at_key fs n) ≡ Some x → contains x (option_to_list f.1.task ++ future_tasks fs) ≡ true)
-      (λ same here. contains-left x (option_to_list f.1.task) (future_tasks fs) (contains-task x f.1.task here))
-      (λ differs rest. contains-right x (option_to_list f.1.task) (future_tasks fs) (contains-future x n fs rest)) is
+    (λ same here. contains-left x (option_to_list f.1.task) (future_tasks fs) (contains-task x f.1.task here))
+    (λ differs rest. contains-right x (option_to_list f.1.task) (future_tasks fs) (contains-future x n fs rest)) is
 
 contains-direction : (place : Place) (x : ℕ) (d : Direction) → stored_task (entry_at place d) ≡ Some x → contains x (tasks_of d) ≡ true
 contains-direction ThePolled x d is = contains-left x (task_of d.polled) (future_tasks d.futures) (contains-polled x d.polled is)
@@ -164,14 +163,14 @@ pub taken-all : (x : ℕ) (place : Place) (k : ℕ) (e : Dir) (t : ℕ) (reports
 taken-all x place k e t [] sources named is = absurd (true≢false (sym named))
 taken-all x place k e t (r ∷ reports) sources named is =
     cases (r.key == k && names_one r e) (λ b. (r.key == k && names_one r e) ≡ b → (b || names reports k e) ≡ true → contains x (taken_by sources r ++ taken_by_all t (after_report t sources r) reports) ≡ true)
-      (λ here was u.
-        let p = two (r.key == k) (names_one r e) was in
-        contains-left x (taken_by sources r) (taken_by_all t (after_report t sources r) reports)
-          (taken-one x place e r (source_of sources r.key) p.1 (ap (λ j. stored_task (entry_at place (direction_of (source_of sources j) e))) (eqb-true r.key k p.0) ∙ is)))
-      (λ elsewhere was rest.
-        contains-right x (taken_by sources r) (taken_by_all t (after_report t sources r) reports)
-          (taken-all x place k e t reports (after_report t sources r) rest (unmarked was ∙ is)))
-      refl named
+    (λ here was u.
+    let p = two (r.key == k) (names_one r e) was in
+    contains-left x (taken_by sources r) (taken_by_all t (after_report t sources r) reports)
+    (taken-one x place e r (source_of sources r.key) p.1 (ap (λ j. stored_task (entry_at place (direction_of (source_of sources j) e))) (eqb-true r.key k p.0) ∙ is)))
+    (λ elsewhere was rest.
+    contains-right x (taken_by sources r) (taken_by_all t (after_report t sources r) reports)
+    (taken-all x place k e t reports (after_report t sources r) rest (unmarked was ∙ is)))
+    refl named
   where
     two : (a b : Bool) → (a && b) ≡ true → (a ≡ true) × (b ≡ true)
     two true b h = (refl, h)

@@ -1,12 +1,11 @@
 -- Lists of steps, and why a list of kinds was refused.
-use Rattle.std.proofs.Common.{◌≡◌, ℕ, zero, suc, List, [], ◌∷◌, ◌++◌, Some, map, take, length, refl, sym, ap, ◌∙◌, subst, reverse}
+use Rattle.std.proofs.Common.{◌≡◌, suc, List, [], ◌∷◌, ◌++◌, Some, take, length, refl, sym, ap, ◌∙◌}
 use Rattle.std.specs.Prelude.{slice_get}
-use Rattle.std.proofs.lemmas.List.{length-map}
 use Rattle.react_steps.specs.declared.kind.Kind.{Kind}
 use Rattle.react_steps.specs.declared.kind.StepError.{StepError}
 use Rattle.react_steps.specs.declared.kind.StepError.TheVariants.{Disabled, OutOfMemory}
 use Rattle.react_steps.specs.declared.kind.Taken.{Taken}
-use Rattle.react_steps.specs.History.{Past, kinds_of, IsDisabledAt, IsRefused, IsRefusedNext}
+use Rattle.react_steps.specs.History.{Past, kinds_of, IsRefused, IsRefusedNext}
 
 module _ {T : Type 0} where
   taken : (xs ys : List T) → take (length xs) (xs ++ ys) ≡ xs

@@ -1,23 +1,21 @@
 -- The laws of every list of steps.
-use Rattle.std.proofs.Common.{◌≡◌, ◌⊎◌, ℕ, Bool, true, false, true≢false, List, [], ◌∷◌, ◌++◌, Option, Some, None, is_some, refl, sym, ap, ◌∙◌, subst, inl, inr, arith}
+use Rattle.std.proofs.Common.{◌≡◌, ◌⊎◌, ℕ, Bool, true, false, true≢false, List, [], ◌∷◌, ◌++◌, Option, Some, None, refl, sym, ap, ◌∙◌, subst, inl, inr, arith}
 use Rattle.std.specs.Prelude.{◌==◌, ◌||◌, if◌then◌else◌}
 use Rattle.std.proofs.lemmas.Bool.{eq-eqb, eqb-true}
 use Rattle.react_core.specs.Places.{Entry}
 use Rattle.react_core.specs.Readiness.{fresh_at, stored_task}
 use Rattle.react_core.specs.Reports.{without_task}
-use Rattle.react_core.specs.Sources as sources
-use Rattle.react_core.specs.Futures.{direction_at}
 use Rattle.react_steps.specs.declared.kind.Taken.{Taken}
-use Rattle.react_steps.specs.Accounts.{entry_at, stored_at, contains, polled_again, follows, is_followed}
+use Rattle.react_steps.specs.Accounts.{stored_at, contains, follows, is_followed}
 use Rattle.react_steps.specs.History.{Run}
 use Rattle.react_steps.specs.Interests.{is_task, ReadyExactly, since_interest}
 use Rattle.react_steps.specs.Sights.{Place, ThePolled, OfFuture, Spot, Sight, ReadyThere, PendingThere, GivenUp, NewSource, SourceGone, RoundBegins, WaitReturns, RoundEnds, Elsewhere, sight}
-use Rattle.react_steps.specs.World.{World, idle, Step}
+use Rattle.react_steps.specs.World.{World, idle}
 use Rattle.react_steps.proofs.Agreeing.{cases, agree-step, answer-step, is_task-true}
 use Rattle.react_steps.proofs.Moves.{view}
 use Rattle.react_steps.proofs.Tidying.{tidy-step}
 use Rattle.react_steps.proofs.Turning.{Tidy, step-turn}
-use Rattle.react_steps.proofs.Views.{View, Turn, polled_entry, Agree, Since, fresh-calm}
+use Rattle.react_steps.proofs.Views.{View, Turn, polled_entry, Agree, fresh-calm}
 
 tidy-idle : Tidy idle
 tidy-idle = record { sources = tt; futures = λ k e. tt }
@@ -41,9 +39,11 @@ agree-run q (t ∷ past) w run =
 -- each poll that didn't fail answers Ready exactly where a whole round since the begin of its interest named its direction
 pub ready-run : (past : List Taken) (w : World) → Run past w → ReadyExactly past
 ready-run [] w is = tt
-ready-run (t ∷ past) w run = (λ q.
-    answer-step q.key q.dir q.place past (sight q t) t.woken (view q run.0) (view q w) (step-turn q run.0 w t.kind t.answer t.woken (tidy-run past run.0 run.2) run.1) (agree-run q past run.0 run.2),
-  ready-run past run.0 run.2)
+ready-run (t ∷ past) w run = (
+  λ q.
+      answer-step q.key q.dir q.place past (sight q t) t.woken (view q run.0) (view q w) (step-turn q run.0 w t.kind t.answer t.woken (tidy-run past run.0 run.2) run.1) (agree-run q past run.0 run.2),
+  ready-run past run.0 run.2,
+)
 
 -- ---- what becomes of a Pending poll
 
@@ -62,8 +62,8 @@ is_task-false task other o is = ap (is_task other) is
 pending-stored : (place : Place) (task : ℕ) (woken : List ℕ) (old new : View) → Turn place (PendingThere task) woken old new → stored_task new.entry ≡ Some task
 pending-stored ThePolled task woken old new turn =
     cases (is_task task (stored_task old.entry)) (λ b. is_task task (stored_task old.entry) ≡ b → stored_task new.entry ≡ Some task)
-      (λ same was. ap (λ (v : View). stored_task v.entry) (turn.stays was) ∙ is_task-true task (stored_task old.entry) was)
-      (λ other was. ap (λ (v : View). stored_task v.entry) (turn.anew was)) refl
+    (λ same was. ap (λ (v : View). stored_task v.entry) (turn.stays was) ∙ is_task-true task (stored_task old.entry) was)
+    (λ other was. ap (λ (v : View). stored_task v.entry) (turn.anew was)) refl
 pending-stored (OfFuture n) task woken old new turn = ap (λ (v : View). stored_task v.entry) turn.view ∙ polled old.entry
   where
     polled : (e : Option Entry) → stored_task (polled_entry old.ticker task e) ≡ Some task
@@ -80,9 +80,9 @@ account-step ThePolled (ReadyThere other) woken task old new turn calm stored = 
 account-step (OfFuture n) (ReadyThere other) woken task old new turn calm stored = inl (or-right (contains task woken) true refl)
 account-step ThePolled (PendingThere other) woken task old new turn calm stored =
     cases (other == task) (λ b. (other == task) ≡ b → ((contains task woken || b) ≡ true) ⊎ (stored_task new.entry ≡ Some task))
-      (λ same was. inl (or-right (contains task woken) true refl))
-      (λ differs was. inl (or-left (contains task woken) false (turn.wakes task stored (flip was))))
-      refl
+    (λ same was. inl (or-right (contains task woken) true refl))
+    (λ differs was. inl (or-left (contains task woken) false (turn.wakes task stored (flip was))))
+    refl
   where
     flip : (other == task) ≡ false → (task == other) ≡ false
     flip unlike = cases (task == other) (λ b. (task == other) ≡ b → b ≡ false) (λ same was. absurd (true≢false (sym (eq-eqb other task (sym (eqb-true task other was))) ∙ unlike))) (λ u v. refl) refl
@@ -94,9 +94,9 @@ account-step place RoundBegins woken task old new turn calm stored = inr (ap (λ
 account-step place (WaitReturns named) woken task old new turn calm stored = inr (ap (λ (v : View). stored_task v.entry) turn ∙ stored)
 account-step place RoundEnds woken task old new turn calm stored =
     cases old.named (λ b. old.named ≡ b → ((contains task woken || false) ≡ true) ⊎ (stored_task new.entry ≡ Some task))
-      (λ named was. inl (or-left (contains task woken) false (turn.wakes was task stored)))
-      (λ unnamed was. inr (ap (λ (v : View). stored_task v.entry) turn.view ∙ ap (λ b. stored_task (if b then without_task old.entry else old.entry)) was ∙ stored))
-      refl
+    (λ named was. inl (or-left (contains task woken) false (turn.wakes was task stored)))
+    (λ unnamed was. inr (ap (λ (v : View). stored_task v.entry) turn.view ∙ ap (λ b. stored_task (if b then without_task old.entry else old.entry)) was ∙ stored))
+    refl
 account-step place Elsewhere woken task old new turn calm stored = inr (ap (λ (v : View). stored_task v.entry) turn ∙ stored)
 
 -- each poll that was Pending has its task stored, or a later step accounts for it
@@ -104,16 +104,16 @@ pub polls-run : (q : Spot) (task : ℕ) (t : Taken) (later earlier : List Taken)
     (is_followed q task later ≡ true) ⊎ (stored_at w.core q ≡ Some task)
 polls-run q task t [] earlier w run is =
     inr (pending-stored q.place task t.woken (view q run.0) (view q w)
-      (subst (λ s. Turn q.place s t.woken (view q run.0) (view q w)) is (step-turn q run.0 w t.kind t.answer t.woken (tidy-run earlier run.0 run.2) run.1)))
+    (subst (λ s. Turn q.place s t.woken (view q run.0) (view q w)) is (step-turn q run.0 w t.kind t.answer t.woken (tidy-run earlier run.0 run.2) run.1)))
 polls-run q task t (s ∷ later) earlier w run is = elim (polls-run q task t later earlier run.0 run.2 is) [
-    | inl followed ↦ inl (or-right (contains task s.woken || follows q.place task (sight q s)) (is_followed q task later) followed)
-    | inr stored ↦
-        let past = later ++ t ∷ earlier in
-        let a = agree-run q past run.0 run.2 in
-        let v = view q run.0 in
-        elim (account-step q.place (sight q s) s.woken task v (view q w) (step-turn q run.0 w s.kind s.answer s.woken (tidy-run past run.0 run.2) run.1)
-            (fresh-calm q (since_interest q past) v.entry v.reported v.ticker v.is_open v.named a.since) stored) [
-          | inl now ↦ inl (or-left (contains task s.woken || follows q.place task (sight q s)) (is_followed q task later) now)
-          | inr still ↦ inr still
-        ]
-  ]
+  | inl followed ↦ inl (or-right (contains task s.woken || follows q.place task (sight q s)) (is_followed q task later) followed)
+  | inr stored ↦
+      let past = later ++ t ∷ earlier in
+      let a = agree-run q past run.0 run.2 in
+      let v = view q run.0 in
+      elim (account-step q.place (sight q s) s.woken task v (view q w) (step-turn q run.0 w s.kind s.answer s.woken (tidy-run past run.0 run.2) run.1)
+      (fresh-calm q (since_interest q past) v.entry v.reported v.ticker v.is_open v.named a.since) stored) [
+        | inl now ↦ inl (or-left (contains task s.woken || follows q.place task (sight q s)) (is_followed q task later) now)
+        | inr still ↦ inr still
+      ]
+]

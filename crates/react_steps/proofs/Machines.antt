@@ -1,30 +1,29 @@
 -- The machine's steps as steps of the world.
-use Rattle.std.proofs.Common.{◌≡◌, ℕ, ◌+◌, ◌<◌, Bool, true, false, List, [], ◌∷◌, ◌++◌, Option, Some, None, is_some, length, get_or, set, refl, sym, ap, ◌∙◌, subst}
-use Rattle.std.specs.Prelude.{◌==◌, ◌&&◌, if◌then◌else◌, slice_set}
+use Rattle.std.proofs.Common.{◌≡◌, ℕ, Bool, true, false, List, [], ◌∷◌, Option, Some, None, is_some, get_or, set, refl, sym, ap, ◌∙◌}
+use Rattle.std.specs.Prelude.{◌==◌, if◌then◌else◌}
 use Rattle.std.proofs.lemmas.Bool.{eq-eqb}
 use Rattle.std.specs.Option.{option_to_list}
 use Rattle.react_core.specs.declared.reactor.Dir.{Dir}
 use Rattle.react_core.specs.Asking.{after_direction, first_task}
-use Rattle.react_core.specs.Core.{Core, HasSource, removed, inserted}
 use Rattle.react_core.specs.Futures.{asks, is_fired, after_future, after_future_poll, direction_of, direction_at, future_fresh, without_future, cancelled, after_source_cancel}
 use Rattle.react_core.specs.Futures as futures
 use Rattle.react_core.specs.Keyed.{at_key, with_at, with_new_at, without_at, KeysRiseFrom}
-use Rattle.react_core.specs.Places.{Entry, Direction, Source}
-use Rattle.react_core.specs.Readiness.{Outcome, direction_outcome, poll_outcome, poll_answer, woken_by, arms, after_poll}
+use Rattle.react_core.specs.Places.{Source}
+use Rattle.react_core.specs.Readiness.{direction_outcome, poll_outcome, poll_answer, woken_by, arms}
 use Rattle.react_core.specs.Reports.{Arming, arming_of}
-use Rattle.react_core.specs.Sources.{source_of, with_source, side, with_side, new_source}
+use Rattle.react_core.specs.Sources.{source_of, with_source, side, with_side}
 use Rattle.react_core.specs.Step as core
 use Rattle.react_core.proofs.Askings.{outcome-at, polled-core, few-woken}
 use Rattle.react_core.proofs.Futures.{direction-at, future-core}
-use Rattle.react_core.proofs.Keyed.{at_key-with_at, at_key-with_new_at, at_key-without_at, KeysRiseFrom-with_at, KeysRiseFrom-with_new_at, KeysRiseFrom-without_at}
+use Rattle.react_core.proofs.Keyed.{at_key-with_at, at_key-with_new_at, at_key-without_at}
 use Rattle.react_steps.specs.declared.armed.Armed.{Armed}
 use Rattle.react_steps.specs.declared.kind.Answer.{Answer}
 use Rattle.react_steps.specs.declared.kind.Answer.TheVariants.{Done}
 use Rattle.react_steps.specs.declared.kind.Kind.TheVariants.{Poll, PollFuture, Cancel}
 use Rattle.react_steps.specs.declared.machine.Machine.{Machine}
-use Rattle.react_steps.specs.Machine.{core_of, world_of, Sound, begun_after}
+use Rattle.react_steps.specs.Machine.{core_of, world_of, begun_after}
 use Rattle.react_steps.specs.Rows.{StandsAt}
-use Rattle.react_steps.specs.World.{World, Step, Polled, PollStep, CancelStep, polled, with_armings, armings_of, armed_at_key, unarmed}
+use Rattle.react_steps.specs.World.{World, Step, Polled, PollStep, CancelStep, polled, with_armings, armings_of}
 use Rattle.react_steps.proofs.Rows.{keys-with_at}
 
 -- ---- the row that was found

@@ -1,25 +1,20 @@
 -- What polls, cancels, insertions and removals do to the view of a place.
-use Rattle.std.proofs.Common.{◌≡◌, ◌⊎◌, ℕ, ◌+◌, ◌≤◌, Bool, true, false, true≢false, List, [], ◌∷◌, ◌++◌, Option, Some, None, is_some, refl, sym, ap, ◌∙◌, subst, inl, inr, arith}
+use Rattle.std.proofs.Common.{◌≡◌, ℕ, Bool, true, false, true≢false, List, [], ◌∷◌, Option, Some, None, is_some, refl, sym, ap, ◌∙◌}
 use Rattle.std.specs.Prelude.{◌==◌, ◌&&◌, ◌||◌, if◌then◌else◌}
 use Rattle.std.proofs.lemmas.Bool.{eqb-true, eq-eqb}
-use Rattle.react_core.specs.declared.outside.Report.{Report}
 use Rattle.react_core.specs.declared.reactor.Dir.{Dir}
 use Rattle.react_core.specs.declared.reactor.Dir.TheVariants.{Read, Write}
 use Rattle.react_core.specs.Asking.{after_direction, after_outcome}
-use Rattle.react_core.specs.Core.{Core, HasSource, removed, inserted}
-use Rattle.react_core.specs.Futures.{asks, is_fired, polled_futures, with_future, after_future, direction_of, direction_at, future_answer, without_future}
-use Rattle.react_core.specs.Keyed.{at_key, with_at, with_new_at, without_at, KeysRiseFrom}
+use Rattle.react_core.specs.Futures.{is_fired, polled_futures, with_future, after_future, direction_of, direction_at, future_answer, without_future}
+use Rattle.react_core.specs.Keyed.{at_key, KeysRiseFrom}
 use Rattle.react_core.specs.Places.{Entry, Direction, Source}
-use Rattle.react_core.specs.Readiness.{Outcome, Fires, Stays, Begins, direction_outcome, waiting_outcome, poll_outcome, poll_answer, woken_by, arms, fresh_at, stored_task}
-use Rattle.react_core.specs.Sources.{source_of, with_source, with_new, without, new_source, idle, side, with_side, some_task}
-use Rattle.react_core.specs.Step as core
+use Rattle.react_core.specs.Readiness.{Outcome, Fires, Stays, Begins, direction_outcome, waiting_outcome, poll_answer, woken_by, arms, fresh_at, stored_task}
+use Rattle.react_core.specs.Sources.{source_of, with_source, side, with_side, some_task}
 use Rattle.react_core.proofs.Askings.{futures-after_direction}
 use Rattle.react_core.proofs.Keyed.{at_key-with_at, at_key-with_new_at, at_key-without_at}
-use Rattle.react_steps.specs.declared.kind.Answer.{Answer}
-use Rattle.react_steps.specs.declared.kind.Answer.TheVariants.{Ready, Pending, Failed}
-use Rattle.react_steps.specs.Accounts.{entry_at, named_in, contains}
+use Rattle.react_steps.specs.Accounts.{entry_at, named_in}
 use Rattle.react_steps.specs.Interests.{is_task}
-use Rattle.react_steps.specs.Sights.{Place, ThePolled, OfFuture, Spot, Sight, ReadyThere, PendingThere, GivenUp, NewSource, SourceGone, Elsewhere, same_dir, same_place, is_of, poll_sight, sight_of}
+use Rattle.react_steps.specs.Sights.{Place, ThePolled, OfFuture, Spot, same_dir, is_of, poll_sight}
 use Rattle.react_steps.specs.World.{World, polled}
 use Rattle.react_steps.proofs.Agreeing.{cases}
 use Rattle.react_steps.proofs.Rows.{keys-with_at}
@@ -70,8 +65,8 @@ module _ (sources : List (ℕ × Source)) (key : ℕ) (dir : Dir) (s : Source) (
   direction-with k e =
       ap (λ o. direction_of o e) (at_key-with_at sources key k (with_side dir s d) (ap is_some found))
       ∙ cases (key == k) (λ b. direction_of (if b then Some (with_side dir s d) else source_of sources k) e ≡ (if b && same_dir dir e then d else direction_of (source_of sources k) e))
-        (λ same. side-with dir e s d (direction_of (source_of sources k) e) (sym (ap (λ o. direction_of o e) (ap (source_of sources) (sym (eqb-true key k same)) ∙ found))))
-        (λ differs. refl)
+      (λ same. side-with dir e s d (direction_of (source_of sources k) e) (sym (ap (λ o. direction_of o e) (ap (source_of sources) (sym (eqb-true key k same)) ∙ found))))
+      (λ differs. refl)
 
 -- a step that writes one direction back
 module _ (old new : World) (key : ℕ) (dir : Dir) (s : Source) (found : source_of old.core.sources key ≡ Some s) (d : Direction)
@@ -83,12 +78,12 @@ module _ (old new : World) (key : ℕ) (dir : Dir) (s : Source) (found : source_
   view-turned : (q : Spot) → view q new ≡ of q.place (if is_of q key dir then d else direction_at old.core q.key q.dir) old.core.ticker (is_some old.core.hands) (named_in old.returned q.key q.dir) (is_some (source_of old.core.sources q.key))
   view-turned q =
       ap (λ x. of q.place x new.core.ticker (is_some new.core.hands) (named_in new.returned q.key q.dir) (is_some (source_of new.core.sources q.key)))
-        (ap (λ ss. direction_of (source_of ss q.key) q.dir) sources ∙ direction-with old.core.sources key dir s found d q.key q.dir)
+      (ap (λ ss. direction_of (source_of ss q.key) q.dir) sources ∙ direction-with old.core.sources key dir s found d q.key q.dir)
       ∙ ap (λ x. of q.place (if is_of q key dir then d else direction_at old.core q.key q.dir) x (is_some new.core.hands) (named_in new.returned q.key q.dir) (is_some (source_of new.core.sources q.key))) ticker
       ∙ ap (λ x. of q.place (if is_of q key dir then d else direction_at old.core q.key q.dir) old.core.ticker (is_some x) (named_in new.returned q.key q.dir) (is_some (source_of new.core.sources q.key))) hands
       ∙ ap (λ x. of q.place (if is_of q key dir then d else direction_at old.core q.key q.dir) old.core.ticker (is_some old.core.hands) (named_in x q.key q.dir) (is_some (source_of new.core.sources q.key))) returned
       ∙ ap (λ x. of q.place (if is_of q key dir then d else direction_at old.core q.key q.dir) old.core.ticker (is_some old.core.hands) (named_in old.returned q.key q.dir) x)
-        (ap (λ ss. is_some (source_of ss q.key)) sources ∙ keys-with_at old.core.sources key (with_side dir s d) q.key)
+      (ap (λ ss. is_some (source_of ss q.key)) sources ∙ keys-with_at old.core.sources key (with_side dir s d) q.key)
 
   pub view-off : (q : Spot) → is_of q key dir ≡ false → view q new ≡ view q old
   view-off q off =
@@ -129,21 +124,21 @@ module _ (ticker task : ℕ) (d : Direction) (is_open named : Bool) where
   }
   stored-turn armed (Some stored) is fresh =
       cases (stored == task) (λ b. Turn ThePolled (poll_sight task (polled (poll_answer (if b then Stays else Begins (stored ∷ []) false)))) (woken_by (if b then Stays else Begins (stored ∷ []) false))
-          (of ThePolled d ticker is_open named true) (of ThePolled (after_outcome ticker task d (if b then Stays else Begins (stored ∷ []) false)) ticker is_open named true))
-        (λ same. record {
-          known = refl;
-          due = fresh;
-          stays = λ u. refl;
-          anew = λ other. absurd (true≢false (sym same ∙ sym (ap (is_task task) is) ∙ other));
-          wakes = λ other was differs. absurd (let e : stored ≡ other = some-eq (sym is ∙ was) in true≢false (sym same ∙ ap (λ x. x == task) e ∙ differs));
-        })
-        (λ differs. record {
-          known = refl;
-          due = fresh;
-          stays = λ same. absurd (true≢false (sym same ∙ ap (is_task task) is ∙ differs));
-          anew = λ other. refl;
-          wakes = λ other was u. let e : stored ≡ other = some-eq (sym is ∙ was) in ap (λ b. b || false) (eq-eqb stored other e);
-        })
+      (of ThePolled d ticker is_open named true) (of ThePolled (after_outcome ticker task d (if b then Stays else Begins (stored ∷ []) false)) ticker is_open named true))
+      (λ same. record {
+        known = refl;
+        due = fresh;
+        stays = λ u. refl;
+        anew = λ other. absurd (true≢false (sym same ∙ sym (ap (is_task task) is) ∙ other));
+        wakes = λ other was differs. absurd (let e : stored ≡ other = some-eq (sym is ∙ was) in true≢false (sym same ∙ ap (λ x. x == task) e ∙ differs));
+      })
+      (λ differs. record {
+        known = refl;
+        due = fresh;
+        stays = λ same. absurd (true≢false (sym same ∙ ap (is_task task) is ∙ differs));
+        anew = λ other. refl;
+        wakes = λ other was u. let e : stored ≡ other = some-eq (sym is ∙ was) in ap (λ b. b || false) (eq-eqb stored other e);
+      })
     where
       some-eq : {x y : ℕ} → Some x ≡ Some y → x ≡ y
       some-eq e = cc
@@ -152,11 +147,11 @@ module _ (ticker task : ℕ) (d : Direction) (is_open named : Bool) where
       (of ThePolled (after_direction ticker task d) ticker is_open named true)
   polled-turn =
       cases (fresh_at d.reported d.polled)
-        (λ b. Turn ThePolled (poll_sight task (polled (poll_answer (if b then Fires else waiting_outcome task (some_task d.futures) (stored_task d.polled)))))
-          (woken_by (if b then Fires else waiting_outcome task (some_task d.futures) (stored_task d.polled))) (of ThePolled d ticker is_open named true)
-          (of ThePolled (after_outcome ticker task d (if b then Fires else waiting_outcome task (some_task d.futures) (stored_task d.polled))) ticker is_open named true))
-        (λ fresh. record { due = fresh; view = refl })
-        (λ stale. stored-turn (some_task d.futures) (stored_task d.polled) refl stale)
+      (λ b. Turn ThePolled (poll_sight task (polled (poll_answer (if b then Fires else waiting_outcome task (some_task d.futures) (stored_task d.polled)))))
+      (woken_by (if b then Fires else waiting_outcome task (some_task d.futures) (stored_task d.polled))) (of ThePolled d ticker is_open named true)
+      (of ThePolled (after_outcome ticker task d (if b then Fires else waiting_outcome task (some_task d.futures) (stored_task d.polled))) ticker is_open named true))
+      (λ fresh. record { due = fresh; view = refl })
+      (λ stale. stored-turn (some_task d.futures) (stored_task d.polled) refl stale)
 
   reported-outcome : (o : Outcome) → (after_outcome ticker task d o).reported ≡ d.reported
   reported-outcome Fires = refl
@@ -183,13 +178,13 @@ module _ (ticker task : ℕ) (d : Direction) (is_open named : Bool) where
       (of (OfFuture n) (after_future ticker task d n) ticker is_open named true)
   future-turn n =
       cases (is_fired d n) (λ b. Turn (OfFuture n) (poll_sight task (polled (future_answer b))) [] (of (OfFuture n) d ticker is_open named true)
-          (of (OfFuture n) (if b then d else with_future ticker task d n) ticker is_open named true))
-        (λ fired. record { due = fired; view = refl })
-        (λ stale. record {
-          known = refl;
-          due = stale;
-          view = ap (λ e. record { entry = e; reported = d.reported; ticker = ticker; is_open = is_open; named = named; has = true }) (entry-future n (at_key d.futures n) refl);
-        })
+      (of (OfFuture n) (if b then d else with_future ticker task d n) ticker is_open named true))
+      (λ fired. record { due = fired; view = refl })
+      (λ stale. record {
+        known = refl;
+        due = stale;
+        view = ap (λ e. record { entry = e; reported = d.reported; ticker = ticker; is_open = is_open; named = named; has = true }) (entry-future n (at_key d.futures n) refl);
+      })
 
   pub future-leaves-polled : (n : ℕ) → of ThePolled (after_future ticker task d n) ticker is_open named true ≡ of ThePolled d ticker is_open named true
   future-leaves-polled n = cases (is_fired d n) (λ b. of ThePolled (if b then d else with_future ticker task d n) ticker is_open named true ≡ of ThePolled d ticker is_open named true) (λ f. refl) (λ f. refl)
@@ -197,7 +192,7 @@ module _ (ticker task : ℕ) (d : Direction) (is_open named : Bool) where
   pub future-leaves : (n m : ℕ) → (n == m) ≡ false → of (OfFuture m) (after_future ticker task d n) ticker is_open named true ≡ of (OfFuture m) d ticker is_open named true
   future-leaves n m differs =
       cases (is_fired d n) (λ b. of (OfFuture m) (if b then d else with_future ticker task d n) ticker is_open named true ≡ of (OfFuture m) d ticker is_open named true) (λ f. refl)
-        (λ f. ap (λ e. record { entry = e; reported = d.reported; ticker = ticker; is_open = is_open; named = named; has = true }) (entry-other n m (at_key d.futures n) refl differs))
+      (λ f. ap (λ e. record { entry = e; reported = d.reported; ticker = ticker; is_open = is_open; named = named; has = true }) (entry-other n m (at_key d.futures n) refl differs))
 
   -- ---- a cancel
 

@@ -1,5 +1,5 @@
 -- Reports as they are gone through, one after another.
-use Rattle.std.proofs.Common.{◌≡◌, ℕ, ◌+◌, ◌<◌, ◌≤◌, Bool, true, false, true≢false, List, [], ◌∷◌, ◌++◌, Option, Some, None, is_some, length, refl, sym, ap, ◌∙◌, arith}
+use Rattle.std.proofs.Common.{◌≡◌, ℕ, ◌≤◌, Bool, true, false, true≢false, List, [], ◌∷◌, ◌++◌, Option, Some, None, is_some, length, refl, sym, ap, ◌∙◌, arith}
 use Rattle.std.specs.Prelude.{◌||◌}
 use Rattle.react_core.specs.declared.outside.Report.{Report}
 use Rattle.react_core.specs.Keyed.{at_key, KeysRiseFrom}
@@ -10,7 +10,6 @@ use Rattle.react_core.proofs.Keyed.{KeysRiseFrom-with_at}
 use Rattle.react_steps.specs.declared.armed.Armed.{Armed}
 use Rattle.react_steps.specs.World.{with_armings, made_of, fails_of, less, without_report_of, without_report, without_reports}
 use Rattle.react_steps.proofs.Rows.{keys-with_at}
-use Rattle.react_steps.proofs.Machines.{SameKeys}
 
 pub made_of-none : (armings : List Arming) → made_of false armings ≡ armings
 made_of-none [] = refl

@@ -1,5 +1,5 @@
 -- While no call of the poller fails, the direction of each task that waits stays armed or named.
-use Rattle.std.proofs.Common.{◌≡◌, ◌⊎◌, ℕ, Bool, true, false, true≢false, List, [], ◌∷◌, ◌++◌, Option, Some, None, is_some, refl, sym, ap, ◌∙◌, subst, inl, inr, arith}
+use Rattle.std.proofs.Common.{◌≡◌, ℕ, Bool, true, false, true≢false, List, [], ◌∷◌, Option, Some, None, is_some, refl, sym, ap, ◌∙◌, subst, inl, inr, arith}
 use Rattle.std.specs.Prelude.{◌==◌, ◌&&◌, ◌||◌, if◌then◌else◌}
 use Rattle.std.proofs.lemmas.Bool.{eqb-true, eq-eqb}
 use Rattle.react_core.specs.declared.outside.Report.{Report}
@@ -8,10 +8,10 @@ use Rattle.react_core.specs.declared.reactor.Dir.TheVariants.{Read, Write}
 use Rattle.react_core.specs.Asking.{after_direction}
 use Rattle.react_core.specs.Core.{Core}
 use Rattle.react_core.specs.Futures.{asks, after_future, direction_of, direction_at, without_future, after_source_cancel}
-use Rattle.react_core.specs.Keyed.{at_key, with_at, with_new_at, without_at, KeysRiseFrom}
+use Rattle.react_core.specs.Keyed.{at_key, KeysRiseFrom}
 use Rattle.react_core.specs.Places.{Direction, Source}
 use Rattle.react_core.specs.Readiness.{direction_outcome, poll_outcome, arms}
-use Rattle.react_core.specs.Reports.{Arming, arming_of, marked, after_report, armings_by_of, armings_by, armings_by_all}
+use Rattle.react_core.specs.Reports.{Arming, arming_of, marked, after_report, armings_by, armings_by_all}
 use Rattle.react_core.specs.Sources.{source_of, with_source, new_source, side, with_side, waits}
 use Rattle.react_core.specs.Step as core
 use Rattle.react_core.proofs.Askings.{outcome-at, polled-core, begun_after}
@@ -19,7 +19,6 @@ use Rattle.react_core.proofs.Futures.{direction-at, future-core}
 use Rattle.react_core.proofs.Keyed.{at_key-with_at, at_key-with_new_at, at_key-without_at, KeysRiseFrom-with_new_at, KeysRiseFrom-without_at}
 use Rattle.react_steps.specs.declared.armed.Armed.{Armed}
 use Rattle.react_steps.specs.declared.kind.Answer.{Answer}
-use Rattle.react_steps.specs.declared.kind.Answer.TheVariants.{Ready, Pending, Begun, Done, Failed}
 use Rattle.react_steps.specs.declared.kind.Kind.{Kind}
 use Rattle.react_steps.specs.declared.kind.Kind.TheVariants.{Poll, PollFuture, Cancel, Insert, Remove, Begin, Returned, Finish}
 use Rattle.react_steps.specs.declared.kind.Taken.{Taken}
@@ -32,8 +31,8 @@ use Rattle.react_steps.proofs.Covering.{stored-waits, unarmed-poll, unarmed-futu
 use Rattle.react_steps.proofs.Ends.{direction-reports}
 use Rattle.react_steps.proofs.Laws.{tidy-run, polls-run}
 use Rattle.react_steps.proofs.Machines.{SameKeys, keys-armings, free-too, keys-inserted, keys-removed}
-use Rattle.react_steps.proofs.Moves.{if-true, if-false, direction-with}
-use Rattle.react_steps.proofs.Reporting.{made_of-none, keys-reports, keys-without}
+use Rattle.react_steps.proofs.Moves.{if-true, direction-with}
+use Rattle.react_steps.proofs.Reporting.{keys-reports, keys-without}
 use Rattle.react_steps.proofs.Rows.{keys-with_at}
 use Rattle.react_steps.proofs.Turning.{Tidy, some-of, unpoll}
 
@@ -85,17 +84,17 @@ module _ (old new : World) (sharp : Sharp old) (key : ℕ) (dir : Dir) (s : Sour
   covered-by true is k e w =
       let l_is : new.armed ≡ with_armings old.armed (arming_of key s') = armed-is ∙ ap (λ c. if c then with_armings old.armed (arming_of key s') else old.armed) is in
       cases (key == k) (λ c. (key == k) ≡ c → (armed_in e (at_key new.armed k) || named_in new.returned k e) ≡ true)
-        (λ same was.
-          let k_is : key ≡ k = eqb-true key k was in
-          let there : direction_at new.core k e ≡ side e s' = ap (λ o. direction_of o e) (ap (source_of new.core.sources) (sym k_is) ∙ source-there) in
-          or-one (armed_in e (at_key new.armed k)) (named_in new.returned k e)
-            (ap (λ (l : List (ℕ × Armed)). armed_in e (at_key l k)) l_is ∙ subst (λ j. armed_in e (at_key (with_armings old.armed (arming_of key s')) j) ≡ true) k_is
-              (armed-here old.armed key s' e armed-known (sym (ap waits there) ∙ w))))
-        (λ differs was.
-          let same : direction_at new.core k e ≡ direction_at old.core k e = direction-is k e ∙ ap (λ c. if c && same_dir dir e then d else direction_at old.core k e) was in
-          ap (λ (l : List (ℕ × Armed)). armed_in e (at_key l k) || named_in new.returned k e) l_is
-          ∙ ap (λ o. armed_in e o || named_in new.returned k e) (armed-elsewhere old.armed key s' k armed-known was)
-          ∙ ap (λ r. armed_in e (at_key old.armed k) || named_in r k e) returned ∙ sharp.covered k e (sym (ap waits same) ∙ w)) refl
+      (λ same was.
+      let k_is : key ≡ k = eqb-true key k was in
+      let there : direction_at new.core k e ≡ side e s' = ap (λ o. direction_of o e) (ap (source_of new.core.sources) (sym k_is) ∙ source-there) in
+      or-one (armed_in e (at_key new.armed k)) (named_in new.returned k e)
+      (ap (λ (l : List (ℕ × Armed)). armed_in e (at_key l k)) l_is ∙ subst (λ j. armed_in e (at_key (with_armings old.armed (arming_of key s')) j) ≡ true) k_is
+      (armed-here old.armed key s' e armed-known (sym (ap waits there) ∙ w))))
+      (λ differs was.
+      let same : direction_at new.core k e ≡ direction_at old.core k e = direction-is k e ∙ ap (λ c. if c && same_dir dir e then d else direction_at old.core k e) was in
+      ap (λ (l : List (ℕ × Armed)). armed_in e (at_key l k) || named_in new.returned k e) l_is
+      ∙ ap (λ o. armed_in e o || named_in new.returned k e) (armed-elsewhere old.armed key s' k armed-known was)
+      ∙ ap (λ r. armed_in e (at_key old.armed k) || named_in r k e) returned ∙ sharp.covered k e (sym (ap waits same) ∙ w)) refl
     where
       or-one : (x y : Bool) → x ≡ true → (x || y) ≡ true
       or-one true y h = refl
@@ -104,13 +103,13 @@ module _ (old new : World) (sharp : Sharp old) (key : ℕ) (dir : Dir) (s : Sour
       let l_is : new.armed ≡ old.armed = armed-is ∙ ap (λ c. if c then with_armings old.armed (arming_of key s') else old.armed) is in
       ap (λ (l : List (ℕ × Armed)). armed_in e (at_key l k) || named_in new.returned k e) l_is ∙ ap (λ r. armed_in e (at_key old.armed k) || named_in r k e) returned
       ∙ sharp.covered k e
-        (cases (key == k && same_dir dir e) (λ c. (key == k && same_dir dir e) ≡ c → waits (if c then d else direction_at old.core k e) ≡ true → waits (direction_at old.core k e) ≡ true)
-          (λ here was now.
-            let p = two (key == k) (same_dir dir e) was in
-            let there : direction_at old.core k e ≡ side dir s =
-                ap (λ j. direction_at old.core j e) (sym (eqb-true key k p.0)) ∙ ap (λ x. direction_at old.core key x) (sym (dir-eq dir e p.1)) ∙ ap (λ o. direction_of o dir) found in
-            ap waits there ∙ quiet is now)
-          (λ elsewhere was now. now) refl (sym (ap waits (direction-is k e)) ∙ w))
+      (cases (key == k && same_dir dir e) (λ c. (key == k && same_dir dir e) ≡ c → waits (if c then d else direction_at old.core k e) ≡ true → waits (direction_at old.core k e) ≡ true)
+      (λ here was now.
+      let p = two (key == k) (same_dir dir e) was in
+      let there : direction_at old.core k e ≡ side dir s =
+      ap (λ j. direction_at old.core j e) (sym (eqb-true key k p.0)) ∙ ap (λ x. direction_at old.core key x) (sym (dir-eq dir e p.1)) ∙ ap (λ o. direction_of o dir) found in
+      ap waits there ∙ quiet is now)
+      (λ elsewhere was now. now) refl (sym (ap waits (direction-is k e)) ∙ w))
     where
       two : (x y : Bool) → (x && y) ≡ true → (x ≡ true) × (y ≡ true)
       two true y h = (refl, h)
@@ -134,30 +133,30 @@ module _ (old new : World) (sharp : Sharp old) (key : ℕ) (dir : Dir) (s : Sour
 module _ (old new : World) (sharp : Sharp old) (tidy : Tidy old) where
   poll-sharp : (key : ℕ) (dir : Dir) (task : ℕ) (fault : Bool) (answer : Answer) (woken : List ℕ) → is_failed answer ≡ false → Step old (Poll key dir task fault) answer woken new → Sharp new
   poll-sharp key dir task fault answer woken fine step = elim (unpoll fault _ old (core.PolledPoll key dir task) key answer woken new step.step) [
-      | inl refused ↦ absurd (true≢false (sym (ap is_failed refused.answered) ∙ fine))
-      | inr made ↦
-          let found = some-of (source_of old.core.sources key) step.known in
-          let d = side dir found.0 in
-          let d' = after_direction old.core.ticker task d in
-          let o = outcome-at old.core key dir task found.0 found.1 in
-          let core_is = made.step.core ∙ sym (polled-core old.core key dir task found.0 found.1 (with_source old.core.sources key (with_side dir found.0 d')) (begun_after old.core.begun (direction_outcome task d)) refl refl) in
-          polled-sharp old new sharp key dir found.0 found.1 d' (arms (poll_outcome old.core key dir task)) (ap (λ (c : Core). c.sources) core_is) (ap (λ (c : Core). c.hands) core_is)
-            (ap (λ (w : World). w.returned) made.world) (ap (λ (w : World). w.armed) made.world) (λ none w. unarmed-poll old.core.ticker task d (sym (ap arms o) ∙ none) w)
-    ]
+    | inl refused ↦ absurd (true≢false (sym (ap is_failed refused.answered) ∙ fine))
+    | inr made ↦
+        let found = some-of (source_of old.core.sources key) step.known in
+        let d = side dir found.0 in
+        let d' = after_direction old.core.ticker task d in
+        let o = outcome-at old.core key dir task found.0 found.1 in
+        let core_is = made.step.core ∙ sym (polled-core old.core key dir task found.0 found.1 (with_source old.core.sources key (with_side dir found.0 d')) (begun_after old.core.begun (direction_outcome task d)) refl refl) in
+        polled-sharp old new sharp key dir found.0 found.1 d' (arms (poll_outcome old.core key dir task)) (ap (λ (c : Core). c.sources) core_is) (ap (λ (c : Core). c.hands) core_is)
+        (ap (λ (w : World). w.returned) made.world) (ap (λ (w : World). w.armed) made.world) (λ none w. unarmed-poll old.core.ticker task d (sym (ap arms o) ∙ none) w)
+  ]
 
   future-sharp : (key : ℕ) (dir : Dir) (n task : ℕ) (fault : Bool) (answer : Answer) (woken : List ℕ) → is_failed answer ≡ false → Step old (PollFuture key dir n task fault) answer woken new → Sharp new
   future-sharp key dir n task fault answer woken fine step = elim (unpoll fault _ old (core.FuturePoll key dir n task) key answer woken new step.step) [
-      | inl refused ↦ absurd (true≢false (sym (ap is_failed refused.answered) ∙ fine))
-      | inr made ↦
-          let found = some-of (source_of old.core.sources key) step.known in
-          let d = side dir found.0 in
-          let d' = after_future old.core.ticker task d n in
-          let at = direction-at old.core key dir found.0 found.1 in
-          let core_is = made.step.core ∙ sym (future-core old.core key dir found.0 found.1 (with_source old.core.sources key (with_side dir found.0 d')) task n refl) in
-          polled-sharp old new sharp key dir found.0 found.1 d' (asks (direction_at old.core key dir) (at_key (direction_at old.core key dir).futures n)) (ap (λ (c : Core). c.sources) core_is)
-            (ap (λ (c : Core). c.hands) core_is) (ap (λ (w : World). w.returned) made.world) (ap (λ (w : World). w.armed) made.world)
-            (λ none w. unarmed-future old.core.ticker task d n (sym (ap (λ x. asks x (at_key x.futures n)) at) ∙ none) w)
-    ]
+    | inl refused ↦ absurd (true≢false (sym (ap is_failed refused.answered) ∙ fine))
+    | inr made ↦
+        let found = some-of (source_of old.core.sources key) step.known in
+        let d = side dir found.0 in
+        let d' = after_future old.core.ticker task d n in
+        let at = direction-at old.core key dir found.0 found.1 in
+        let core_is = made.step.core ∙ sym (future-core old.core key dir found.0 found.1 (with_source old.core.sources key (with_side dir found.0 d')) task n refl) in
+        polled-sharp old new sharp key dir found.0 found.1 d' (asks (direction_at old.core key dir) (at_key (direction_at old.core key dir).futures n)) (ap (λ (c : Core). c.sources) core_is)
+        (ap (λ (c : Core). c.hands) core_is) (ap (λ (w : World). w.returned) made.world) (ap (λ (w : World). w.armed) made.world)
+        (λ none w. unarmed-future old.core.ticker task d n (sym (ap (λ x. asks x (at_key x.futures n)) at) ∙ none) w)
+  ]
 
   -- a step that leaves the armed directions, and lets no task wait where none waited
   calm-sharp : new.armed ≡ old.armed → ((k : ℕ) → is_some (source_of new.core.sources k) ≡ is_some (source_of old.core.sources k)) → new.returned ≡ old.returned → new.core.hands ≡ old.core.hands →
@@ -177,17 +176,17 @@ module _ (old new : World) (sharp : Sharp old) (tidy : Tidy old) where
       let sources = ap (λ (c : Core). c.sources) core_is in
       let d' = without_future (side dir s) n in
       calm-sharp (ap (λ (w : World). w.armed) made.1)
-        (λ k. ap (λ (ss : List (ℕ × Source)). is_some (source_of ss k)) sources ∙ keys-with_at old.core.sources key (with_side dir s d') k)
-        (ap (λ (w : World). w.returned) made.1) (ap (λ (c : Core). c.hands) core_is)
-        (λ k e w.
-          let at = ap (λ ss. direction_of (source_of ss k) e) sources ∙ direction-with old.core.sources key dir s is d' k e in
-          cases (key == k && same_dir dir e) (λ c. (key == k && same_dir dir e) ≡ c → waits (if c then d' else direction_at old.core k e) ≡ true → waits (direction_at old.core k e) ≡ true)
-            (λ here was now.
-              let p = two (key == k) (same_dir dir e) was in
-              let there : direction_at old.core k e ≡ side dir s =
-                  ap (λ j. direction_at old.core j e) (sym (eqb-true key k p.0)) ∙ ap (λ x. direction_at old.core key x) (sym (dir-eq dir e p.1)) ∙ ap (λ o. direction_of o dir) is in
-              ap waits there ∙ cancel-waits (side dir s) n now)
-            (λ elsewhere was now. now) refl (sym (ap waits at) ∙ w))
+      (λ k. ap (λ (ss : List (ℕ × Source)). is_some (source_of ss k)) sources ∙ keys-with_at old.core.sources key (with_side dir s d') k)
+      (ap (λ (w : World). w.returned) made.1) (ap (λ (c : Core). c.hands) core_is)
+      (λ k e w.
+      let at = ap (λ ss. direction_of (source_of ss k) e) sources ∙ direction-with old.core.sources key dir s is d' k e in
+      cases (key == k && same_dir dir e) (λ c. (key == k && same_dir dir e) ≡ c → waits (if c then d' else direction_at old.core k e) ≡ true → waits (direction_at old.core k e) ≡ true)
+      (λ here was now.
+      let p = two (key == k) (same_dir dir e) was in
+      let there : direction_at old.core k e ≡ side dir s =
+      ap (λ j. direction_at old.core j e) (sym (eqb-true key k p.0)) ∙ ap (λ x. direction_at old.core key x) (sym (dir-eq dir e p.1)) ∙ ap (λ o. direction_of o dir) is in
+      ap waits there ∙ cancel-waits (side dir s) n now)
+      (λ elsewhere was now. now) refl (sym (ap waits at) ∙ w))
     where
       two : (x y : Bool) → (x && y) ≡ true → (x ≡ true) × (y ≡ true)
       two true y h = (refl, h)
@@ -219,11 +218,11 @@ module _ (old new : World) (sharp : Sharp old) (tidy : Tidy old) where
             let source_is = ap (λ (c : Core). source_of c.sources k) core_is ∙ at_key-with_new_at old.core.sources key k (new_source wire) step.step.free in
             let armed_is = ap (λ (l : List (ℕ × Armed)). at_key l k) armed ∙ at_key-with_new_at old.armed key k unarmed free in
             cases (key == k) (λ b. source_of new.core.sources k ≡ (if b then Some (new_source wire) else source_of old.core.sources k) → at_key new.armed k ≡ (if b then Some unarmed else at_key old.armed k) →
-                (armed_in e (at_key new.armed k) || named_in new.returned k e) ≡ true)
-              (λ same there a. absurd (true≢false (sym w ∙ ap waits (ap (λ o. direction_of o e) there) ∙ new-waits wire e)))
-              (λ differs there a. ap (λ o. armed_in e o || named_in new.returned k e) a ∙ ap (λ r. armed_in e (at_key old.armed k) || named_in r k e) returned
-                ∙ sharp.covered k e (sym (ap waits (ap (λ o. direction_of o e) there)) ∙ w))
-              source_is armed_is;
+            (armed_in e (at_key new.armed k) || named_in new.returned k e) ≡ true)
+            (λ same there a. absurd (true≢false (sym w ∙ ap waits (ap (λ o. direction_of o e) there) ∙ new-waits wire e)))
+            (λ differs there a. ap (λ o. armed_in e o || named_in new.returned k e) a ∙ ap (λ r. armed_in e (at_key old.armed k) || named_in r k e) returned
+            ∙ sharp.covered k e (sym (ap waits (ap (λ o. direction_of o e) there)) ∙ w))
+            source_is armed_is;
       }
 
   remove-sharp : (key : ℕ) (fault : Bool) (answer : Answer) (woken : List ℕ) → Step old (Remove key fault) answer woken new → Sharp new
@@ -240,11 +239,11 @@ module _ (old new : World) (sharp : Sharp old) (tidy : Tidy old) where
             let source_is = ap (λ (c : Core). source_of c.sources k) core_is ∙ at_key-without_at 0 old.core.sources key k tidy.sources in
             let armed_is = ap (λ (l : List (ℕ × Armed)). at_key l k) armed ∙ at_key-without_at 0 old.armed key k sharp.rises in
             cases (key == k) (λ b. source_of new.core.sources k ≡ (if b then None else source_of old.core.sources k) → at_key new.armed k ≡ (if b then None else at_key old.armed k) →
-                (armed_in e (at_key new.armed k) || named_in new.returned k e) ≡ true)
-              (λ same there a. absurd (true≢false (sym w ∙ ap waits (ap (λ o. direction_of o e) there) ∙ idle-waits e)))
-              (λ differs there a. ap (λ o. armed_in e o || named_in new.returned k e) a ∙ ap (λ r. armed_in e (at_key old.armed k) || named_in r k e) returned
-                ∙ sharp.covered k e (sym (ap waits (ap (λ o. direction_of o e) there)) ∙ w))
-              source_is armed_is;
+            (armed_in e (at_key new.armed k) || named_in new.returned k e) ≡ true)
+            (λ same there a. absurd (true≢false (sym w ∙ ap waits (ap (λ o. direction_of o e) there) ∙ idle-waits e)))
+            (λ differs there a. ap (λ o. armed_in e o || named_in new.returned k e) a ∙ ap (λ r. armed_in e (at_key old.armed k) || named_in r k e) returned
+            ∙ sharp.covered k e (sym (ap waits (ap (λ o. direction_of o e) there)) ∙ w))
+            source_is armed_is;
       }
 
   none-if : {T : Type 0} (o : Option T) → (is_some o ≡ true → ⊥) → o ≡ None
@@ -313,8 +312,8 @@ module _ (old new : World) (sharp : Sharp old) (tidy : Tidy old) where
         covered = λ k e w.
             let at = ap (λ (c : Core). direction_at c k e) core_is ∙ direction-reports T old.core.sources reports k e in
             or-one (armed_in e (at_key new.armed k)) (named_in new.returned k e)
-              (ap (λ (l : List (ℕ × Armed)). armed_in e (at_key l k)) armed
-              ∙ by-name (names reports k e) reports k e T refl made.returned (sym (ap waits at) ∙ w));
+            (ap (λ (l : List (ℕ × Armed)). armed_in e (at_key l k)) armed
+            ∙ by-name (names reports k e) reports k e T refl made.returned (sym (ap waits at) ∙ w));
       }
     where
       or-one : (x y : Bool) → x ≡ true → (x || y) ≡ true
@@ -336,10 +335,10 @@ module _ (old new : World) (sharp : Sharp old) (tidy : Tidy old) where
           absurd (true≢false (sym w ∙ ap (λ b. waits (if is_some (source_of old.core.sources k) then marked b t (direction_at old.core k e) else direction_at old.core k e)) is ∙ named (source_of old.core.sources k) e t))
       by-name false reports k e t is was w =
           let waited : waits (direction_at old.core k e) ≡ true =
-              sym (unnamed (is_some (source_of old.core.sources k)) (direction_at old.core k e) t) ∙ sym (ap (λ b. waits (if is_some (source_of old.core.sources k) then marked b t (direction_at old.core k e) else direction_at old.core k e)) is) ∙ w in
+          sym (unnamed (is_some (source_of old.core.sources k)) (direction_at old.core k e) t) ∙ sym (ap (λ b. waits (if is_some (source_of old.core.sources k) then marked b t (direction_at old.core k e) else direction_at old.core k e)) is) ∙ w in
           let covered = sharp.covered k e waited in
           let armed : armed_in e (at_key old.armed k) ≡ true =
-              or-none (armed_in e (at_key old.armed k)) (ap (λ b. armed_in e (at_key old.armed k) || b) (sym is) ∙ ap (λ r. armed_in e (at_key old.armed k) || named_in r k e) (sym was) ∙ covered) in
+          or-none (armed_in e (at_key old.armed k)) (ap (λ b. armed_in e (at_key old.armed k) || b) (sym is) ∙ ap (λ r. armed_in e (at_key old.armed k) || named_in r k e) (sym was) ∙ covered) in
           keeps-armed t reports old.core.sources old.armed k e is armed waited sharp.keys (keys-one_of t)
 
 pub sharp-step : (old new : World) (kind : Kind) (answer : Answer) (woken : List ℕ) → Sharp old → Tidy old → is_failed answer ≡ false → Step old kind answer woken new → Sharp new

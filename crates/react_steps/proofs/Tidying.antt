@@ -1,5 +1,5 @@
 -- Steps keep the keys and the places in order.
-use Rattle.std.proofs.Common.{◌≡◌, ◌⊎◌, ℕ, Bool, true, false, true≢false, List, [], ◌∷◌, Option, Some, None, is_some, refl, sym, ap, ◌∙◌, subst, inl, inr, arith}
+use Rattle.std.proofs.Common.{◌≡◌, ℕ, Bool, true, false, List, Option, Some, None, is_some, refl, sym, ap, ◌∙◌, subst, inl, inr, arith}
 use Rattle.std.specs.Prelude.{◌==◌, ◌&&◌, if◌then◌else◌}
 use Rattle.react_core.specs.declared.outside.Report.{Report}
 use Rattle.react_core.specs.declared.reactor.Dir.{Dir}
@@ -11,10 +11,10 @@ use Rattle.react_core.specs.Keyed.{at_key, KeysRiseFrom}
 use Rattle.react_core.specs.Places.{Direction, Source}
 use Rattle.react_core.specs.Readiness.{direction_outcome}
 use Rattle.react_core.specs.Reports.{marked}
-use Rattle.react_core.specs.Sources.{source_of, with_source, idle, new_source, side, with_side}
+use Rattle.react_core.specs.Sources.{source_of, with_source, new_source, side, with_side}
 use Rattle.react_core.specs.Step as core
 use Rattle.react_core.proofs.Askings.{polled-core, begun_after, futures-after_direction}
-use Rattle.react_core.proofs.Futures.{direction-at, future-core}
+use Rattle.react_core.proofs.Futures.{future-core}
 use Rattle.react_core.proofs.Keyed.{at_key-with_new_at, at_key-without_at, KeysRiseFrom-with_at, KeysRiseFrom-with_new_at, KeysRiseFrom-without_at}
 use Rattle.react_steps.specs.declared.kind.Answer.{Answer}
 use Rattle.react_steps.specs.declared.kind.Kind.{Kind}
@@ -64,7 +64,7 @@ module _ (old new : World) (tidy : Tidy old) where
   cancel-tidy key dir n woken None is made = same-sources (ap (λ (w : World). w.core.sources) made.1)
   cancel-tidy key dir n woken (Some s) is made =
       written key dir s is (without_future (side dir s) n) (ap (λ (c : Core). c.sources) (made.0.core ∙ ap (λ o. after_source_cancel old.core key o dir n) is))
-        (KeysRiseFrom-without_at 0 (side dir s).futures n (side-rises key dir s is))
+      (KeysRiseFrom-without_at 0 (side dir s).futures n (side-rises key dir s is))
 
   none-rises : (e : Dir) → Rises (direction_of None e)
   none-rises e = tt
@@ -99,32 +99,32 @@ module _ (old new : World) (tidy : Tidy old) where
         sources = subst (KeysRiseFrom 0) (sym is) (rises-reports old.core.ticker old.core.sources step.0 tidy.sources);
         futures = λ k e. subst Rises (sym (ap (λ ss. direction_of (source_of ss k) e) is ∙ direction-reports old.core.ticker old.core.sources step.0 k e))
             (rises-if (is_some (source_of old.core.sources k)) (marked (names step.0 k e) old.core.ticker (direction_at old.core k e)) (direction_at old.core k e)
-              (rises-marked (names step.0 k e) old.core.ticker (direction_at old.core k e) (tidy.futures k e)) (tidy.futures k e));
+            (rises-marked (names step.0 k e) old.core.ticker (direction_at old.core k e) (tidy.futures k e)) (tidy.futures k e));
       }
 
   poll-tidy : (key : ℕ) (dir : Dir) (task : ℕ) (fault : Bool) (answer : Answer) (woken : List ℕ) → Step old (Poll key dir task fault) answer woken new → Tidy new
   poll-tidy key dir task fault answer woken step = elim (unpoll fault _ old (core.PolledPoll key dir task) key answer woken new step.step) [
-      | inl refused ↦ same-sources (ap (λ (w : World). w.core.sources) refused.world)
-      | inr made ↦
-          let found = some-of (source_of old.core.sources key) step.known in
-          let d = side dir found.0 in
-          let d' = after_direction old.core.ticker task d in
-          written key dir found.0 found.1 d'
-            (ap (λ (c : Core). c.sources) (made.step.core ∙ sym (polled-core old.core key dir task found.0 found.1 (with_source old.core.sources key (with_side dir found.0 d')) (begun_after old.core.begun (direction_outcome task d)) refl refl)))
-            (subst (KeysRiseFrom 0) (sym (futures-after_direction old.core.ticker task d)) (side-rises key dir found.0 found.1))
-    ]
+    | inl refused ↦ same-sources (ap (λ (w : World). w.core.sources) refused.world)
+    | inr made ↦
+        let found = some-of (source_of old.core.sources key) step.known in
+        let d = side dir found.0 in
+        let d' = after_direction old.core.ticker task d in
+        written key dir found.0 found.1 d'
+        (ap (λ (c : Core). c.sources) (made.step.core ∙ sym (polled-core old.core key dir task found.0 found.1 (with_source old.core.sources key (with_side dir found.0 d')) (begun_after old.core.begun (direction_outcome task d)) refl refl)))
+        (subst (KeysRiseFrom 0) (sym (futures-after_direction old.core.ticker task d)) (side-rises key dir found.0 found.1))
+  ]
 
   future-tidy : (key : ℕ) (dir : Dir) (n task : ℕ) (fault : Bool) (answer : Answer) (woken : List ℕ) → Step old (PollFuture key dir n task fault) answer woken new → Tidy new
   future-tidy key dir n task fault answer woken step = elim (unpoll fault _ old (core.FuturePoll key dir n task) key answer woken new step.step) [
-      | inl refused ↦ same-sources (ap (λ (w : World). w.core.sources) refused.world)
-      | inr made ↦
-          let found = some-of (source_of old.core.sources key) step.known in
-          let d = side dir found.0 in
-          let d' = after_future old.core.ticker task d n in
-          written key dir found.0 found.1 d'
-            (ap (λ (c : Core). c.sources) (made.step.core ∙ sym (future-core old.core key dir found.0 found.1 (with_source old.core.sources key (with_side dir found.0 d')) task n refl)))
-            (rises-future old.core.ticker task d n (side-rises key dir found.0 found.1))
-    ]
+    | inl refused ↦ same-sources (ap (λ (w : World). w.core.sources) refused.world)
+    | inr made ↦
+        let found = some-of (source_of old.core.sources key) step.known in
+        let d = side dir found.0 in
+        let d' = after_future old.core.ticker task d n in
+        written key dir found.0 found.1 d'
+        (ap (λ (c : Core). c.sources) (made.step.core ∙ sym (future-core old.core key dir found.0 found.1 (with_source old.core.sources key (with_side dir found.0 d')) task n refl)))
+        (rises-future old.core.ticker task d n (side-rises key dir found.0 found.1))
+  ]
 
   return-tidy : (reports : List Report) (fault : Bool) (answer : Answer) (woken : List ℕ) → Step old (Returned reports fault) answer woken new → Tidy new
   return-tidy reports true answer woken step = same-sources (ap (λ (c : Core). c.sources) step.step.step.core)

@@ -1,17 +1,17 @@
 -- Each step of the world, as each place sees it.
-use Rattle.std.proofs.Common.{◌≡◌, ◌⊎◌, ℕ, ◌+◌, ◌-◌, ◌^◌, min, Bool, true, false, true≢false, List, [], ◌∷◌, ◌++◌, Option, Some, None, is_some, refl, sym, ap, ◌∙◌, subst, inl, inr, arith, unwrap_or}
-use Rattle.std.specs.Prelude.{◌==◌, ◌&&◌, ◌||◌, if◌then◌else◌}
-use Rattle.std.proofs.lemmas.Bool.{eqb-true, eq-eqb}
+use Rattle.std.proofs.Common.{◌≡◌, ◌⊎◌, ℕ, ◌+◌, Bool, true, false, true≢false, List, [], ◌++◌, Option, Some, None, is_some, refl, sym, ap, ◌∙◌, subst, inl, inr, unwrap_or}
+use Rattle.std.specs.Prelude.{◌==◌, ◌&&◌, if◌then◌else◌}
+use Rattle.std.proofs.lemmas.Bool.{eqb-true}
 use Rattle.react_core.specs.declared.outside.Report.{Report}
 use Rattle.react_core.specs.declared.reactor.Dir.{Dir}
 use Rattle.react_core.specs.declared.reactor.Dir.TheVariants.{Read, Write}
 use Rattle.react_core.specs.Asking.{after_direction}
-use Rattle.react_core.specs.Core.{Core, HasSource}
-use Rattle.react_core.specs.Futures.{asks, is_fired, after_future, direction_of, direction_at, future_answer, future_fresh, without_future, after_source_cancel}
-use Rattle.react_core.specs.Keyed.{at_key, with_new_at, without_at, KeysRiseFrom}
-use Rattle.react_core.specs.Places.{Entry, Direction, Source}
-use Rattle.react_core.specs.Readiness.{direction_outcome, poll_outcome, poll_answer, woken_by, arms, stored_task}
-use Rattle.react_core.specs.Reports.{without_task, marked, after_reports, taken_by_all}
+use Rattle.react_core.specs.Core.{Core}
+use Rattle.react_core.specs.Futures.{is_fired, after_future, direction_of, direction_at, future_answer, without_future, after_source_cancel}
+use Rattle.react_core.specs.Keyed.{KeysRiseFrom}
+use Rattle.react_core.specs.Places.{Direction, Source}
+use Rattle.react_core.specs.Readiness.{direction_outcome, poll_answer, woken_by}
+use Rattle.react_core.specs.Reports.{without_task, marked, taken_by_all}
 use Rattle.react_core.specs.Sources.{source_of, with_source, idle, new_source, side, with_side}
 use Rattle.react_core.specs.Step as core
 use Rattle.react_core.specs.Timing.{due_tasks}
@@ -19,16 +19,15 @@ use Rattle.react_core.proofs.Askings.{outcome-at, polled-core, begun_after}
 use Rattle.react_core.proofs.Futures.{direction-at, future-core}
 use Rattle.react_core.proofs.Keyed.{at_key-with_new_at, at_key-without_at}
 use Rattle.react_steps.specs.declared.kind.Answer.{Answer}
-use Rattle.react_steps.specs.declared.kind.Answer.TheVariants.{Ready, Pending, Begun, Done, Failed}
 use Rattle.react_steps.specs.declared.kind.Kind.{Kind}
 use Rattle.react_steps.specs.declared.kind.Kind.TheVariants.{Poll, PollFuture, Cancel, Insert, Remove, Begin, Returned, Finish}
 use Rattle.react_steps.specs.Accounts.{entry_at, named_in, contains}
-use Rattle.react_steps.specs.Sights.{Place, ThePolled, OfFuture, Spot, Sight, ReadyThere, PendingThere, GivenUp, NewSource, SourceGone, RoundBegins, WaitReturns, RoundEnds, Elsewhere}
+use Rattle.react_steps.specs.Sights.{Place, ThePolled, OfFuture, Spot, Sight, GivenUp, NewSource, SourceGone, RoundBegins, WaitReturns, RoundEnds, Elsewhere}
 use Rattle.react_steps.specs.Sights.{same_dir, same_place, is_of, names, poll_sight, unless_failed, sight_of}
-use Rattle.react_steps.specs.World.{World, Step, Refused, Polled, PollStep, CancelStep, InsertStep, ReturnStep, FinishStep, polled, done_or_failed}
+use Rattle.react_steps.specs.World.{World, Step, Refused, Polled, PollStep, CancelStep, polled}
 use Rattle.react_steps.proofs.Agreeing.{cases}
 use Rattle.react_steps.proofs.Ends.{direction-reports, has-reports, entry-marked, contains-left, contains-right, taken-all}
-use Rattle.react_steps.proofs.Moves.{of, view, if-true, if-false, if-same, view-off, view-before, view-after, polled-turn, polled-leaves, future-turn, future-leaves-polled, future-leaves, cancel-turn, cancel-leaves}
+use Rattle.react_steps.proofs.Moves.{of, view, view-off, view-before, view-after, polled-turn, polled-leaves, future-turn, future-leaves-polled, future-leaves, cancel-turn, cancel-leaves}
 use Rattle.react_steps.proofs.Views.{View, Turn}
 
 -- what holds of each world that steps lead to: keys and places rise
@@ -59,19 +58,19 @@ module _ (ticker task : ℕ) (d : Direction) (is_open named : Bool) where
   future-at n ThePolled = future-leaves-polled ticker task d is_open named n
   future-at n (OfFuture m) =
       cases (n == m) (λ b. (n == m) ≡ b → Turn (OfFuture m) (if b then poll_sight task (polled (future_answer (is_fired d n))) else Elsewhere) [] (of (OfFuture m) d ticker is_open named true)
-          (of (OfFuture m) (after_future ticker task d n) ticker is_open named true))
-        (λ same was. subst (λ j. Turn (OfFuture j) (poll_sight task (polled (future_answer (is_fired d n)))) [] (of (OfFuture j) d ticker is_open named true)
-          (of (OfFuture j) (after_future ticker task d n) ticker is_open named true)) (eqb-true n m same) (future-turn ticker task d is_open named n))
-        (λ differs was. future-leaves ticker task d is_open named n m differs) refl
+      (of (OfFuture m) (after_future ticker task d n) ticker is_open named true))
+      (λ same was. subst (λ j. Turn (OfFuture j) (poll_sight task (polled (future_answer (is_fired d n)))) [] (of (OfFuture j) d ticker is_open named true)
+      (of (OfFuture j) (after_future ticker task d n) ticker is_open named true)) (eqb-true n m same) (future-turn ticker task d is_open named n))
+      (λ differs was. future-leaves ticker task d is_open named n m differs) refl
 
   cancel-at : KeysRiseFrom 0 d.futures → (n : ℕ) (place : Place) (woken : List ℕ) → Turn place (if true && same_place (OfFuture n) place then GivenUp else Elsewhere) woken
       (of place d ticker is_open named true) (of place (without_future d n) ticker is_open named true)
   cancel-at rises n ThePolled woken = refl
   cancel-at rises n (OfFuture m) woken =
       cases (n == m) (λ b. (n == m) ≡ b → Turn (OfFuture m) (if b then GivenUp else Elsewhere) woken (of (OfFuture m) d ticker is_open named true) (of (OfFuture m) (without_future d n) ticker is_open named true))
-        (λ same was. subst (λ j. Turn (OfFuture j) GivenUp woken (of (OfFuture j) d ticker is_open named true) (of (OfFuture j) (without_future d n) ticker is_open named true)) (eqb-true n m same)
-          (cancel-turn ticker task d is_open named rises true n))
-        (λ differs was. cancel-leaves ticker task d is_open named rises true n m differs) refl
+      (λ same was. subst (λ j. Turn (OfFuture j) GivenUp woken (of (OfFuture j) d ticker is_open named true) (of (OfFuture j) (without_future d n) ticker is_open named true)) (eqb-true n m same)
+      (cancel-turn ticker task d is_open named rises true n))
+      (λ differs was. cancel-leaves ticker task d is_open named rises true n m differs) refl
 
 -- a step that is seen where it writes, and elsewhere not
 seen-by : (q : Spot) (key : ℕ) (dir : Dir) (place : Place) (s : Sight) (woken : List ℕ) (old new : View) →
@@ -79,8 +78,8 @@ seen-by : (q : Spot) (key : ℕ) (dir : Dir) (place : Place) (s : Sight) (woken 
     Turn q.place (if is_of q key dir && same_place place q.place then s else Elsewhere) woken old new
 seen-by q key dir place s woken old new here off =
     cases (is_of q key dir) (λ b. (b ≡ true → Turn q.place (if true && same_place place q.place then s else Elsewhere) woken old new) → (b ≡ false → new ≡ old) →
-        Turn q.place (if b && same_place place q.place then s else Elsewhere) woken old new)
-      (λ u on no. on refl) (λ u on no. no refl) here off
+    Turn q.place (if b && same_place place q.place then s else Elsewhere) woken old new)
+    (λ u on no. on refl) (λ u on no. no refl) here off
 
 -- a step that failed is seen nowhere
 refused-at : (q : Spot) (b : Bool) (s : Sight) (woken : List ℕ) (old new : World) → new ≡ old → s ≡ Elsewhere → Turn q.place (if b then s else Elsewhere) woken (view q old) (view q new)
@@ -90,63 +89,63 @@ refused-at q false s woken old new is none = ap (view q) is
 module _ (q : Spot) (old new : World) (answer : Answer) (woken : List ℕ) (tidy : Tidy old) where
   poll-turn : (key : ℕ) (dir : Dir) (task : ℕ) (fault : Bool) → Step old (Poll key dir task fault) answer woken new → Turn q.place (sight_of q (Poll key dir task fault) answer) woken (view q old) (view q new)
   poll-turn key dir task fault step = elim (unpoll fault _ old (core.PolledPoll key dir task) key answer woken new step.step) [
-      | inl refused ↦ refused-at q (is_of q key dir && same_place ThePolled q.place) (poll_sight task answer) woken old new refused.world (ap (poll_sight task) refused.answered)
-      | inr made ↦
-          let found = some-of (source_of old.core.sources key) step.known in
-          let s : Source = found.0 in
-          let d = side dir s in
-          let o = outcome-at old.core key dir task s found.1 in
-          let d' = after_direction old.core.ticker task d in
-          let T = old.core.ticker in
-          let core_is = made.step.core ∙ sym (polled-core old.core key dir task s found.1 (with_source old.core.sources key (with_side dir s d')) (begun_after old.core.begun (direction_outcome task d)) refl refl) in
-          let sources = ap (λ (c : Core). c.sources) core_is in
-          let ticker = ap (λ (c : Core). c.ticker) core_is in
-          let hands = ap (λ (c : Core). c.hands) core_is in
-          let returned = ap (λ (w : World). w.returned) made.world in
-          let answer_is : answer ≡ polled (poll_answer (direction_outcome task d)) = made.answered ∙ ap polled (made.step.answered ∙ ap poll_answer o) in
-          let woken_is : woken ≡ woken_by (direction_outcome task d) = made.step.wakes ∙ ap woken_by o in
-          seen-by q key dir ThePolled (poll_sight task answer) woken (view q old) (view q new)
-            (λ on.
-              let before = view-before old new key dir s found.1 d' sources ticker hands returned q on in
-              let after = view-after old new key dir s found.1 d' sources ticker hands returned q on in
-              subst (λ a. Turn q.place (if true && same_place ThePolled q.place then poll_sight task a else Elsewhere) woken (view q old) (view q new)) (sym answer_is)
-              (subst (λ ws. Turn q.place (if true && same_place ThePolled q.place then poll_sight task (polled (poll_answer (direction_outcome task d))) else Elsewhere) ws (view q old) (view q new)) (sym woken_is)
-              (subst (λ v. Turn q.place (if true && same_place ThePolled q.place then poll_sight task (polled (poll_answer (direction_outcome task d))) else Elsewhere) (woken_by (direction_outcome task d)) v (view q new)) (sym before)
-              (subst (Turn q.place (if true && same_place ThePolled q.place then poll_sight task (polled (poll_answer (direction_outcome task d))) else Elsewhere) (woken_by (direction_outcome task d))
-                  (of q.place d T (is_some old.core.hands) (named_in old.returned q.key q.dir) true)) (sym after)
-                (polled-at T task d (is_some old.core.hands) (named_in old.returned q.key q.dir) q.place)))))
-            (λ off. view-off old new key dir s found.1 d' sources ticker hands returned q off)
-    ]
+    | inl refused ↦ refused-at q (is_of q key dir && same_place ThePolled q.place) (poll_sight task answer) woken old new refused.world (ap (poll_sight task) refused.answered)
+    | inr made ↦
+        let found = some-of (source_of old.core.sources key) step.known in
+        let s : Source = found.0 in
+        let d = side dir s in
+        let o = outcome-at old.core key dir task s found.1 in
+        let d' = after_direction old.core.ticker task d in
+        let T = old.core.ticker in
+        let core_is = made.step.core ∙ sym (polled-core old.core key dir task s found.1 (with_source old.core.sources key (with_side dir s d')) (begun_after old.core.begun (direction_outcome task d)) refl refl) in
+        let sources = ap (λ (c : Core). c.sources) core_is in
+        let ticker = ap (λ (c : Core). c.ticker) core_is in
+        let hands = ap (λ (c : Core). c.hands) core_is in
+        let returned = ap (λ (w : World). w.returned) made.world in
+        let answer_is : answer ≡ polled (poll_answer (direction_outcome task d)) = made.answered ∙ ap polled (made.step.answered ∙ ap poll_answer o) in
+        let woken_is : woken ≡ woken_by (direction_outcome task d) = made.step.wakes ∙ ap woken_by o in
+        seen-by q key dir ThePolled (poll_sight task answer) woken (view q old) (view q new)
+        (λ on.
+        let before = view-before old new key dir s found.1 d' sources ticker hands returned q on in
+        let after = view-after old new key dir s found.1 d' sources ticker hands returned q on in
+        subst (λ a. Turn q.place (if true && same_place ThePolled q.place then poll_sight task a else Elsewhere) woken (view q old) (view q new)) (sym answer_is)
+        (subst (λ ws. Turn q.place (if true && same_place ThePolled q.place then poll_sight task (polled (poll_answer (direction_outcome task d))) else Elsewhere) ws (view q old) (view q new)) (sym woken_is)
+        (subst (λ v. Turn q.place (if true && same_place ThePolled q.place then poll_sight task (polled (poll_answer (direction_outcome task d))) else Elsewhere) (woken_by (direction_outcome task d)) v (view q new)) (sym before)
+        (subst (Turn q.place (if true && same_place ThePolled q.place then poll_sight task (polled (poll_answer (direction_outcome task d))) else Elsewhere) (woken_by (direction_outcome task d))
+        (of q.place d T (is_some old.core.hands) (named_in old.returned q.key q.dir) true)) (sym after)
+        (polled-at T task d (is_some old.core.hands) (named_in old.returned q.key q.dir) q.place)))))
+        (λ off. view-off old new key dir s found.1 d' sources ticker hands returned q off)
+  ]
 
   future-turned : (key : ℕ) (dir : Dir) (n task : ℕ) (fault : Bool) → Step old (PollFuture key dir n task fault) answer woken new →
       Turn q.place (sight_of q (PollFuture key dir n task fault) answer) woken (view q old) (view q new)
   future-turned key dir n task fault step = elim (unpoll fault _ old (core.FuturePoll key dir n task) key answer woken new step.step) [
-      | inl refused ↦ refused-at q (is_of q key dir && same_place (OfFuture n) q.place) (poll_sight task answer) woken old new refused.world (ap (poll_sight task) refused.answered)
-      | inr made ↦
-          let found = some-of (source_of old.core.sources key) step.known in
-          let s : Source = found.0 in
-          let d = side dir s in
-          let at = direction-at old.core key dir s found.1 in
-          let d' = after_future old.core.ticker task d n in
-          let T = old.core.ticker in
-          let core_is = made.step.core ∙ sym (future-core old.core key dir s found.1 (with_source old.core.sources key (with_side dir s d')) task n refl) in
-          let sources = ap (λ (c : Core). c.sources) core_is in
-          let ticker = ap (λ (c : Core). c.ticker) core_is in
-          let hands = ap (λ (c : Core). c.hands) core_is in
-          let returned = ap (λ (w : World). w.returned) made.world in
-          let answer_is : answer ≡ polled (future_answer (is_fired d n)) = made.answered ∙ ap polled (made.step.answered ∙ ap (λ x. future_answer (is_fired x n)) at) in
-          seen-by q key dir (OfFuture n) (poll_sight task answer) woken (view q old) (view q new)
-            (λ on.
-              let before = view-before old new key dir s found.1 d' sources ticker hands returned q on in
-              let after = view-after old new key dir s found.1 d' sources ticker hands returned q on in
-              subst (λ a. Turn q.place (if true && same_place (OfFuture n) q.place then poll_sight task a else Elsewhere) woken (view q old) (view q new)) (sym answer_is)
-              (subst (λ ws. Turn q.place (if true && same_place (OfFuture n) q.place then poll_sight task (polled (future_answer (is_fired d n))) else Elsewhere) ws (view q old) (view q new)) (sym made.step.wakes)
-              (subst (λ v. Turn q.place (if true && same_place (OfFuture n) q.place then poll_sight task (polled (future_answer (is_fired d n))) else Elsewhere) [] v (view q new)) (sym before)
-              (subst (Turn q.place (if true && same_place (OfFuture n) q.place then poll_sight task (polled (future_answer (is_fired d n))) else Elsewhere) []
-                  (of q.place d T (is_some old.core.hands) (named_in old.returned q.key q.dir) true)) (sym after)
-                (future-at T task d (is_some old.core.hands) (named_in old.returned q.key q.dir) n q.place)))))
-            (λ off. view-off old new key dir s found.1 d' sources ticker hands returned q off)
-    ]
+    | inl refused ↦ refused-at q (is_of q key dir && same_place (OfFuture n) q.place) (poll_sight task answer) woken old new refused.world (ap (poll_sight task) refused.answered)
+    | inr made ↦
+        let found = some-of (source_of old.core.sources key) step.known in
+        let s : Source = found.0 in
+        let d = side dir s in
+        let at = direction-at old.core key dir s found.1 in
+        let d' = after_future old.core.ticker task d n in
+        let T = old.core.ticker in
+        let core_is = made.step.core ∙ sym (future-core old.core key dir s found.1 (with_source old.core.sources key (with_side dir s d')) task n refl) in
+        let sources = ap (λ (c : Core). c.sources) core_is in
+        let ticker = ap (λ (c : Core). c.ticker) core_is in
+        let hands = ap (λ (c : Core). c.hands) core_is in
+        let returned = ap (λ (w : World). w.returned) made.world in
+        let answer_is : answer ≡ polled (future_answer (is_fired d n)) = made.answered ∙ ap polled (made.step.answered ∙ ap (λ x. future_answer (is_fired x n)) at) in
+        seen-by q key dir (OfFuture n) (poll_sight task answer) woken (view q old) (view q new)
+        (λ on.
+        let before = view-before old new key dir s found.1 d' sources ticker hands returned q on in
+        let after = view-after old new key dir s found.1 d' sources ticker hands returned q on in
+        subst (λ a. Turn q.place (if true && same_place (OfFuture n) q.place then poll_sight task a else Elsewhere) woken (view q old) (view q new)) (sym answer_is)
+        (subst (λ ws. Turn q.place (if true && same_place (OfFuture n) q.place then poll_sight task (polled (future_answer (is_fired d n))) else Elsewhere) ws (view q old) (view q new)) (sym made.step.wakes)
+        (subst (λ v. Turn q.place (if true && same_place (OfFuture n) q.place then poll_sight task (polled (future_answer (is_fired d n))) else Elsewhere) [] v (view q new)) (sym before)
+        (subst (Turn q.place (if true && same_place (OfFuture n) q.place then poll_sight task (polled (future_answer (is_fired d n))) else Elsewhere) []
+        (of q.place d T (is_some old.core.hands) (named_in old.returned q.key q.dir) true)) (sym after)
+        (future-at T task d (is_some old.core.hands) (named_in old.returned q.key q.dir) n q.place)))))
+        (λ off. view-off old new key dir s found.1 d' sources ticker hands returned q off)
+  ]
 
   -- ---- a cancel
 
@@ -170,10 +169,10 @@ module _ (q : Spot) (old new : World) (answer : Answer) (woken : List ℕ) (tidy
           Turn q.place (if is_of q key dir && same_place (OfFuture n) q.place then GivenUp else Elsewhere) woken (view q old) (view q new)
       at None is made =
           seen-by q key dir (OfFuture n) GivenUp woken (view q old) (view q new)
-            (λ on. cases (same_place (OfFuture n) q.place) (λ b. Turn q.place (if b then GivenUp else Elsewhere) woken (view q old) (view q new))
-              (λ same. ap (view q) made.1 ∙ ap (λ e. record (view q old) { entry = e }) (nothing is q.place on))
-              (λ differs. ap (view q) made.1))
-            (λ off. ap (view q) made.1)
+          (λ on. cases (same_place (OfFuture n) q.place) (λ b. Turn q.place (if b then GivenUp else Elsewhere) woken (view q old) (view q new))
+          (λ same. ap (view q) made.1 ∙ ap (λ e. record (view q old) { entry = e }) (nothing is q.place on))
+          (λ differs. ap (view q) made.1))
+          (λ off. ap (view q) made.1)
       at (Some s) is made =
           let d = side dir s in
           let d' = without_future d n in
@@ -185,13 +184,13 @@ module _ (q : Spot) (old new : World) (answer : Answer) (woken : List ℕ) (tidy
           let returned = ap (λ (w : World). w.returned) made.1 in
           let rises : KeysRiseFrom 0 d.futures = subst (λ (x : Direction). KeysRiseFrom 0 x.futures) (ap (λ o. direction_of o dir) is) (tidy.futures key dir) in
           seen-by q key dir (OfFuture n) GivenUp woken (view q old) (view q new)
-            (λ on.
-              let before = view-before old new key dir s is d' sources ticker hands returned q on in
-              let after = view-after old new key dir s is d' sources ticker hands returned q on in
-              subst (λ v. Turn q.place (if true && same_place (OfFuture n) q.place then GivenUp else Elsewhere) woken v (view q new)) (sym before)
-              (subst (Turn q.place (if true && same_place (OfFuture n) q.place then GivenUp else Elsewhere) woken (of q.place d T (is_some old.core.hands) (named_in old.returned q.key q.dir) true)) (sym after)
-                (cancel-at T 0 d (is_some old.core.hands) (named_in old.returned q.key q.dir) rises n q.place woken)))
-            (λ off. view-off old new key dir s is d' sources ticker hands returned q off)
+          (λ on.
+          let before = view-before old new key dir s is d' sources ticker hands returned q on in
+          let after = view-after old new key dir s is d' sources ticker hands returned q on in
+          subst (λ v. Turn q.place (if true && same_place (OfFuture n) q.place then GivenUp else Elsewhere) woken v (view q new)) (sym before)
+          (subst (Turn q.place (if true && same_place (OfFuture n) q.place then GivenUp else Elsewhere) woken (of q.place d T (is_some old.core.hands) (named_in old.returned q.key q.dir) true)) (sym after)
+          (cancel-at T 0 d (is_some old.core.hands) (named_in old.returned q.key q.dir) rises n q.place woken)))
+          (λ off. view-off old new key dir s is d' sources ticker hands returned q off)
 
   -- ---- an insertion and a removal
 
@@ -222,15 +221,15 @@ module _ (q : Spot) (old new : World) (answer : Answer) (woken : List ℕ) (tidy
       let returned = ap (λ (w : World). w.returned) step.world in
       subst (λ a. Turn q.place (if key == q.key then unless_failed a NewSource Elsewhere else Elsewhere) woken (view q old) (view q new)) (sym step.answered)
       (cases (key == q.key) (λ b. source_of new.core.sources q.key ≡ (if b then Some (new_source wire) else source_of old.core.sources q.key) → (key == q.key) ≡ b →
-          Turn q.place (if b then NewSource else Elsewhere) woken (view q old) (view q new))
-        (λ same there was.
-          let none : direction_at old.core q.key q.dir ≡ idle = ap (λ o. direction_of o q.dir) (ap (source_of old.core.sources) (sym (eqb-true key q.key was)) ∙ step.step.free) in
-          record {
-            free = ap (entry_at q.place) none ∙ entry-idle q.place;
-            view = view-of (direction_at old.core q.key q.dir) old.core.ticker old.core.hands old.returned true (ap (λ o. direction_of o q.dir) there ∙ new-idle wire q.dir ∙ sym none) ticker hands returned (ap is_some there);
-          })
-        (λ differs there was. view-of (direction_at old.core q.key q.dir) old.core.ticker old.core.hands old.returned (is_some (source_of old.core.sources q.key)) (ap (λ o. direction_of o q.dir) there) ticker hands returned (ap is_some there))
-        sources refl)
+      Turn q.place (if b then NewSource else Elsewhere) woken (view q old) (view q new))
+      (λ same there was.
+      let none : direction_at old.core q.key q.dir ≡ idle = ap (λ o. direction_of o q.dir) (ap (source_of old.core.sources) (sym (eqb-true key q.key was)) ∙ step.step.free) in
+      record {
+        free = ap (entry_at q.place) none ∙ entry-idle q.place;
+        view = view-of (direction_at old.core q.key q.dir) old.core.ticker old.core.hands old.returned true (ap (λ o. direction_of o q.dir) there ∙ new-idle wire q.dir ∙ sym none) ticker hands returned (ap is_some there);
+      })
+      (λ differs there was. view-of (direction_at old.core q.key q.dir) old.core.ticker old.core.hands old.returned (is_some (source_of old.core.sources q.key)) (ap (λ o. direction_of o q.dir) there) ticker hands returned (ap is_some there))
+      sources refl)
 
   remove-turned : (key : ℕ) (fault : Bool) → Step old (Remove key fault) answer woken new → Turn q.place (sight_of q (Remove key fault) answer) woken (view q old) (view q new)
   remove-turned key fault step =
@@ -240,11 +239,11 @@ module _ (q : Spot) (old new : World) (answer : Answer) (woken : List ℕ) (tidy
       let hands = ap (λ (c : Core). c.hands) core_is in
       let returned = ap (λ (w : World). w.returned) step.world in
       cases (key == q.key) (λ b. source_of new.core.sources q.key ≡ (if b then None else source_of old.core.sources q.key) → Turn q.place (if b then SourceGone else Elsewhere) woken (view q old) (view q new))
-        (λ same there.
-          view-of idle old.core.ticker old.core.hands old.returned false (ap (λ o. direction_of o q.dir) there) ticker hands returned (ap is_some there)
-          ∙ ap (λ e. record { entry = e; reported = None; ticker = old.core.ticker; is_open = is_some old.core.hands; named = named_in old.returned q.key q.dir; has = false }) (entry-idle q.place))
-        (λ differs there. view-of (direction_at old.core q.key q.dir) old.core.ticker old.core.hands old.returned (is_some (source_of old.core.sources q.key)) (ap (λ o. direction_of o q.dir) there) ticker hands returned (ap is_some there))
-        sources
+      (λ same there.
+      view-of idle old.core.ticker old.core.hands old.returned false (ap (λ o. direction_of o q.dir) there) ticker hands returned (ap is_some there)
+      ∙ ap (λ e. record { entry = e; reported = None; ticker = old.core.ticker; is_open = is_some old.core.hands; named = named_in old.returned q.key q.dir; has = false }) (entry-idle q.place))
+      (λ differs there. view-of (direction_at old.core q.key q.dir) old.core.ticker old.core.hands old.returned (is_some (source_of old.core.sources q.key)) (ap (λ o. direction_of o q.dir) there) ticker hands returned (ap is_some there))
+      sources
 
   -- ---- a round
 
@@ -264,14 +263,14 @@ module _ (q : Spot) (old new : World) (answer : Answer) (woken : List ℕ) (tidy
       let made = step.step in
       subst (λ a. Turn q.place (unless_failed a (WaitReturns (names reports q.key q.dir)) (WaitReturns false)) woken (view q old) (view q new)) (sym made.answered)
       (view-of (direction_at old.core q.key q.dir) old.core.ticker old.core.hands (Some []) (is_some (source_of old.core.sources q.key))
-        (ap (λ (c : Core). direction_at c q.key q.dir) made.step.core) (ap (λ (c : Core). c.ticker) made.step.core) (ap (λ (c : Core). c.hands) made.step.core) (ap (λ (w : World). w.returned) made.world)
-        (ap (λ (c : Core). is_some (source_of c.sources q.key)) made.step.core))
+      (ap (λ (c : Core). direction_at c q.key q.dir) made.step.core) (ap (λ (c : Core). c.ticker) made.step.core) (ap (λ (c : Core). c.hands) made.step.core) (ap (λ (w : World). w.returned) made.world)
+      (ap (λ (c : Core). is_some (source_of c.sources q.key)) made.step.core))
   return-turned reports false step =
       let made = step.step in
       subst (λ a. Turn q.place (unless_failed a (WaitReturns (names reports q.key q.dir)) (WaitReturns false)) woken (view q old) (view q new)) (sym made.answered)
       (view-of (direction_at old.core q.key q.dir) old.core.ticker old.core.hands (Some reports) (is_some (source_of old.core.sources q.key))
-        (ap (λ (c : Core). direction_at c q.key q.dir) made.step.core) (ap (λ (c : Core). c.ticker) made.step.core) (ap (λ (c : Core). c.hands) made.step.core) (ap (λ (w : World). w.returned) made.world)
-        (ap (λ (c : Core). is_some (source_of c.sources q.key)) made.step.core))
+      (ap (λ (c : Core). direction_at c q.key q.dir) made.step.core) (ap (λ (c : Core). c.ticker) made.step.core) (ap (λ (c : Core). c.hands) made.step.core) (ap (λ (w : World). w.returned) made.world)
+      (ap (λ (c : Core). is_some (source_of c.sources q.key)) made.step.core))
 
   finish-turned : (later : Option ℕ) (fault : Bool) → Step old (Finish later fault) answer woken new → Turn q.place RoundEnds woken (view q old) (view q new)
   finish-turned later fault step =
@@ -284,7 +283,7 @@ module _ (q : Spot) (old new : World) (answer : Answer) (woken : List ℕ) (tidy
       let has = is_some (source_of old.core.sources q.key) in
       let n = named_in old.returned q.key q.dir in
       let d_is : direction_at new.core q.key q.dir ≡ (if has then marked n T d else d) =
-          ap (λ (c : Core). direction_at c q.key q.dir) core_is ∙ direction-reports T old.core.sources reports q.key q.dir ∙ sym (ap (λ b. if has then marked b T d else d) named) in
+      ap (λ (c : Core). direction_at c q.key q.dir) core_is ∙ direction-reports T old.core.sources reports q.key q.dir ∙ sym (ap (λ b. if has then marked b T d else d) named) in
       record {
         running = made.step.running;
         view = view-of (if has then marked n T d else d) T None None has d_is (ap (λ (c : Core). c.ticker) core_is) (ap (λ (c : Core). c.hands) core_is) (ap (λ (w : World). w.returned) made.world)
@@ -292,8 +291,8 @@ module _ (q : Spot) (old new : World) (answer : Answer) (woken : List ℕ) (tidy
             ∙ ended has n (λ none. ap (λ o. entry_at q.place (direction_of o q.dir)) (no-source (source_of old.core.sources q.key) none) ∙ entry-idle q.place);
         wakes = λ yes task stored. subst (λ ws. contains task ws ≡ true) (sym made.step.wakes)
             (contains-left task (unwrap_or old.core.hands [] ++ taken_by_all T old.core.sources reports) (due_tasks old.core later)
-              (contains-right task (unwrap_or old.core.hands []) (taken_by_all T old.core.sources reports)
-                (taken-all task q.place q.key q.dir T reports old.core.sources (sym named ∙ yes) stored)));
+            (contains-right task (unwrap_or old.core.hands []) (taken_by_all T old.core.sources reports)
+            (taken-all task q.place q.key q.dir T reports old.core.sources (sym named ∙ yes) stored)));
       }
     where
       no-source : (o : Option Source) → is_some o ≡ false → o ≡ None

@@ -1,14 +1,14 @@
 -- What the steps tell of a place, and what the world holds there.
-use Rattle.std.proofs.Common.{◌≡◌, ◌⊎◌, ℕ, ◌+◌, ◌<◌, ◌≤◌, Bool, true, false, true≢false, List, [], ◌∷◌, Option, Some, None, is_some, refl, sym, ap, ◌∙◌, subst, inl, inr, arith, min}
+use Rattle.std.proofs.Common.{◌≡◌, ℕ, ◌+◌, ◌≤◌, Bool, true, false, true≢false, List, [], ◌∷◌, Option, Some, None, is_some, refl, sym, ap, ◌∙◌, arith}
 use Rattle.std.specs.Prelude.{◌==◌, nat_lt, ◌&&◌, ◌||◌, if◌then◌else◌}
-use Rattle.std.proofs.lemmas.Bool.{lt-ltb, le-ltb, ltb-true, ltb-false, eqb-true, eq-eqb}
+use Rattle.std.proofs.lemmas.Bool.{le-ltb}
 use Rattle.react_core.specs.Places.{Entry, round_number}
 use Rattle.react_core.specs.Readiness.{fresh_at, stored_task}
 use Rattle.react_core.specs.Reports.{without_task}
 use Rattle.react_steps.specs.declared.kind.Taken.{Taken}
-use Rattle.react_steps.specs.Accounts.{contains, polled_again, follows, is_followed}
-use Rattle.react_steps.specs.Interests.{told, told_by, waiting, waiting_by, is_task, and_since, after_ready, begins, after_pending, since_by, since_interest}
-use Rattle.react_steps.specs.Interests.{has_begun, begun_by, has_named, named_by, has_round, is_end, is_due, AnswersBy}
+use Rattle.react_steps.specs.Accounts.{contains}
+use Rattle.react_steps.specs.Interests.{told, waiting, is_task, and_since, since_interest}
+use Rattle.react_steps.specs.Interests.{has_begun, begun_by, has_named, named_by, has_round, is_end, is_due}
 use Rattle.react_steps.specs.Sights.{Place, ThePolled, OfFuture, Spot, Sight, ReadyThere, PendingThere, GivenUp, NewSource, SourceGone, RoundBegins, WaitReturns, RoundEnds, Elsewhere, sight}
 
 -- what the world holds at a place, and of the open round

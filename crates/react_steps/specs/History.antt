@@ -1,5 +1,5 @@
 -- What holds of the steps that were taken, whichever parties took them.
-use Rattle.std.specs.Prelude.{◌≡◌, ◌<◌, ℕ, List, [], ◌∷◌, Some, map, take, length, slice_get, reverse}
+use Rattle.std.specs.Prelude.{◌≡◌, ℕ, List, [], ◌∷◌, Some, map, take, length, slice_get, reverse}
 use Rattle.react_steps.specs.declared.kind.Kind.{Kind}
 use Rattle.react_steps.specs.declared.kind.StepError.{StepError}
 use Rattle.react_steps.specs.declared.kind.StepError.TheVariants.{Disabled, OutOfMemory}

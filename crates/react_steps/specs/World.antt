@@ -1,6 +1,5 @@
 -- The world of all parties: the reactor's core with what stands around it, and the steps that any party may take.
 use Rattle.std.specs.Prelude.{◌≡◌, ℕ, Bool, true, false, ◌&&◌, not, if◌then◌else◌, List, [], ◌∷◌, Option, Some, None}
-use Rattle.std.specs.Prelude.{IsTrue}
 use Rattle.futures.specs.declared.task.Poll.{Poll}
 use Rattle.futures.specs.declared.task.Poll.TheVariants as poll
 use Rattle.react_core.specs.declared.outside.Report.{Report}

@@ -1,4 +1,4 @@
-use Rattle.std.proofs.Common.{true, false, ◌≡◌, ◌+◌, ◌++◌, ◌∙◌, sym, ap, drop, get_or, length}
+use Rattle.std.proofs.Common.{true, false, ◌≡◌, ◌+◌, ◌++◌, ◌∙◌, sym, ap, drop, get_or}
 use Rattle.std.specs.Prelude.{◌||◌}
 use Rattle.react_core.specs.declared.outside.Report.{Report}
 use Rattle.react_core.specs.Reports.{armings_by, armings_by_all}

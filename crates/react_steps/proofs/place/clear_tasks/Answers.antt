@@ -1,5 +1,5 @@
-use Rattle.std.proofs.Common.{None, ◌≡◌, ◌∙◌, ap, sym, set, get_or, add-one, arith, length, refl}
-use Rattle.react_steps.proofs.Clearing.{Row, clear, cleared, cleared-none, cleared-more, cleared-all}
+use Rattle.std.proofs.Common.{None, ◌∙◌, ap, sym, set, get_or, add-one, arith, refl}
+use Rattle.react_steps.proofs.Clearing.{Row, clear, cleared-none, cleared-more, cleared-all}
 use Rattle.react_steps.proofs.place.clear_tasks.Goals as goal
 
 pub loop-at-init : goal.loop-at-init

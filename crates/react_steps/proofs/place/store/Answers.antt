@@ -1,8 +1,4 @@
-use Rattle.std.proofs.Common.{◌≡◌, ◌∙◌, ap, sym, true, is_ok, arith, refl, length, if◌then◌else◌}
-use Rattle.std.proofs.lemmas.Bool.Decides.{nat_tests}
-use Rattle.std.proofs.lemmas.Grind.{common_steps}
-use Rattle.react_core.specs.Keyed.{KeysRiseFrom}
-use Rattle.react_core.specs.Futures.{polled_futures}
+use Rattle.std.proofs.Common.{◌≡◌, ◌∙◌, true, is_ok, refl}
 use Rattle.react_steps.proofs.Rows.{first-polled, rises-polled, rises-written}
 use Rattle.react_steps.proofs.place.store.Goals as goal
 

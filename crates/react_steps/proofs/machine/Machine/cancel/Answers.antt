@@ -1,6 +1,5 @@
 use Rattle.std.proofs.Common.{◌∙◌, ap}
-use Rattle.react_core.specs.Places.{Source}
-use Rattle.react_core.specs.Sources.{side, with_source}
+use Rattle.react_core.specs.Sources.{with_source}
 use Rattle.react_core.proofs.Keyed.{KeysRiseFrom-with_at}
 use Rattle.react_steps.proofs.Machines.{row-found, row-written, sound-keys, cancel-made}
 use Rattle.std.proofs.Common.{false, [], refl}

@@ -1,5 +1,4 @@
-use Rattle.std.proofs.Common.{◌∙◌, ap, is_some, sym, None, true}
-use Rattle.react_core.specs.Keyed.{KeysRiseFrom}
+use Rattle.std.proofs.Common.{◌∙◌, sym}
 use Rattle.react_core.specs.Reports.{armings_by_all}
 use Rattle.react_steps.specs.World.{made_of}
 use Rattle.react_steps.proofs.Machines.{keys-armings}

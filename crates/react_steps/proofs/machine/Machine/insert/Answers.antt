@@ -1,4 +1,4 @@
-use Rattle.std.proofs.Common.{◌≡◌, ap, sym, ◌∙◌, arith, None}
+use Rattle.std.proofs.Common.{◌≡◌, sym, ◌∙◌, arith, None}
 use Rattle.react_core.specs.Keyed.{at_key}
 use Rattle.react_core.proofs.Keyed.{KeysRiseFrom-with_new_at}
 use Rattle.react_steps.proofs.Machines.{no-value, free-too, keys-inserted}

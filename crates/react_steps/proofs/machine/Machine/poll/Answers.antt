@@ -1,11 +1,10 @@
-use Rattle.std.proofs.Common.{◌≡◌, ◌∙◌, ◌++◌, ap, sym, refl, ℕ, List, Bool, true, false}
+use Rattle.std.proofs.Common.{◌≡◌, ◌∙◌, ◌++◌, ap, sym, ℕ, List, true, false}
 use Rattle.std.specs.Option.{option_to_list}
 use Rattle.std.specs.Prelude.{if◌then◌else◌}
-use Rattle.react_core.specs.Asking.{after_direction}
 use Rattle.react_core.specs.Places.{Source}
 use Rattle.react_core.specs.Readiness.{direction_outcome, arms}
 use Rattle.react_core.specs.Reports.{arming_of}
-use Rattle.react_core.specs.Sources.{side, with_side, with_source}
+use Rattle.react_core.specs.Sources.{side, with_source}
 use Rattle.react_core.proofs.Keyed.{KeysRiseFrom-with_at}
 use Rattle.react_steps.specs.World.{with_armings}
 use Rattle.react_steps.proofs.Machines.{row-found, row-written, sound-keys, poll-made}

@@ -1,6 +1,4 @@
-use Rattle.std.proofs.Common.{◌∙◌, ap, is_some}
-use Rattle.react_steps.specs.declared.armed.Armed.{Armed}
-use Rattle.react_core.specs.Keyed.{at_key}
+use Rattle.std.proofs.Common.{◌∙◌}
 use Rattle.react_steps.proofs.Reporting.{keys-without}
 use Rattle.react_steps.proofs.machine.Machine.returned.Goals as goal
 
