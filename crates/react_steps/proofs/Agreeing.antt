@@ -154,12 +154,15 @@ module _ (key : ℕ) (dir : Dir) where
       let q = at key dir place in
       let none : old.entry ≡ None = a.empty h in
       let gone : without_task old.entry ≡ None = ap without_task none in
-      let s : Since q (since_interest q past) None old.reported old.ticker old.is_open old.named = subst (λ e. Since q (since_interest q past) e old.reported old.ticker old.is_open old.named) none a.since in
+      let s : Since q (since_interest q past) None old.reported old.ticker old.is_open old.named = subst (λ e. Since q (since_interest q past) e old.reported old.ticker old.is_open old.named)
+      none a.since in
       by-sight place t past RoundEnds _ is refl (ap (λ b. if b then None else waiting q past) (a.told ∙ n) ∙ sym (stored-without old.entry))
-      (subst (λ e. Since q (and_since t (since_interest q past)) e old.reported old.ticker false false) (sym gone) (no-entry place t (since_interest q past) old.reported old.ticker old.is_open old.named s))
+      (subst (λ e. Since q (and_since t (since_interest q past)) e old.reported old.ticker false false) (sym gone)
+      (no-entry place t (since_interest q past) old.reported old.ticker old.is_open old.named s))
       a.dated (λ u. gone)
     where
-      no-entry : (place : Place) (t : Taken) (since : Option (List Taken)) (reported : Option ℕ) (ticker : ℕ) (is_open named : Bool) → Since (at key dir place) since None reported ticker is_open named →
+      no-entry : (place : Place) (t : Taken) (since : Option (List Taken)) (reported : Option ℕ) (ticker : ℕ) (is_open named : Bool) →
+          Since (at key dir place) since None reported ticker is_open named →
           Since (at key dir place) (and_since t since) None reported ticker false false
       no-entry place t None reported ticker is_open named i = tt
       no-entry place t (Some steps) reported ticker is_open named i = i

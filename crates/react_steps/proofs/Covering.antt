@@ -126,7 +126,8 @@ pub armed-here : (armed : List (ℕ × Armed)) (key : ℕ) (s : Source) (e : Dir
     armed_in e (at_key (with_armings armed (arming_of key s)) key) ≡ true
 armed-here armed key s e known w =
     cases (waits s.read || waits s.write)
-    (λ b. (waits s.read || waits s.write) ≡ b → armed_in e (at_key (with_armings armed (if b then record { wire = s.wire; key = key; read = waits s.read; write = waits s.write } ∷ [] else [])) key) ≡ true)
+    (λ b. (waits s.read || waits s.write) ≡ b →
+    armed_in e (at_key (with_armings armed (if b then record { wire = s.wire; key = key; read = waits s.read; write = waits s.write } ∷ [] else [])) key) ≡ true)
     (λ some was. ap (armed_in e) (at_key-with_at armed key key (record { read = waits s.read; write = waits s.write }) known ∙ if-true (key == key) _ _ (eq-eqb key key refl)) ∙ in-dir e w)
     (λ none was. absurd (true≢false (sym (either e w) ∙ was))) refl
   where
@@ -234,7 +235,8 @@ keeps-armed t (r ∷ reports) sources armed k e unnamed armed_is w keys keep =
     ap (λ (l : List (ℕ × Armed)). armed_in e (at_key l k)) (with_armings-append armed (armings_by t sources r) (armings_by_all t (after_report t sources r) reports))
     ∙ keeps-armed t reports (after_report t sources r) (with_armings armed (armings_by t sources r)) k e p.1
     (keeps-one t sources armed r k e (source_of sources r.key) refl p.0 armed_is w keys)
-    (ap waits (direction-reports t sources (r ∷ []) k e ∙ same-if (is_some (source_of sources k)) (direction_of (source_of sources k) e) ((r.key == k && names_one r e) || false) (or-false (r.key == k && names_one r e) ∙ p.0)) ∙ w)
+    (ap waits (direction-reports t sources (r ∷ []) k e
+    ∙ same-if (is_some (source_of sources k)) (direction_of (source_of sources k) e) ((r.key == k && names_one r e) || false) (or-false (r.key == k && names_one r e) ∙ p.0)) ∙ w)
     (keep armed r sources keys) keep
   where
     none-of : (a b : Bool) → (a || b) ≡ false → (a ≡ false) × (b ≡ false)

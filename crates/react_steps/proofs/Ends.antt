@@ -10,7 +10,8 @@ use Rattle.react_core.specs.Futures.{direction_of}
 use Rattle.react_core.specs.Keyed.{at_key}
 use Rattle.react_core.specs.Places.{Entry, Direction, Source}
 use Rattle.react_core.specs.Readiness.{stored_task}
-use Rattle.react_core.specs.Reports.{without_task, without_tasks, marked, task_of, future_tasks, tasks_of, taken_of, reported, after_report_of, after_report, after_reports, taken_by_of, taken_by, taken_by_all}
+use Rattle.react_core.specs.Reports.{without_task, without_tasks, marked, task_of, future_tasks, tasks_of, taken_of, reported, after_report_of, after_report, after_reports, taken_by_of, taken_by}
+use Rattle.react_core.specs.Reports.{taken_by_all}
 use Rattle.react_core.specs.Sources.{source_of}
 use Rattle.react_core.proofs.Keyed.{at_key-with_at}
 use Rattle.react_steps.specs.Accounts.{entry_at, contains}
@@ -87,10 +88,12 @@ reports-at t sources [] k = marked-none t k (source_of sources k)
 reports-at t sources (r ∷ reports) k =
     reports-at t (after_report t sources r) reports k
     ∙ ap (marked_source t reports k) (after-one t sources r (source_of sources r.key) k refl)
-    ∙ cases (r.key == k) (λ b. (r.key == k) ≡ b → marked_source t reports k (if b then marked_source t (r ∷ []) k (source_of sources k) else source_of sources k) ≡ marked_source t (r ∷ reports) k (source_of sources k))
+    ∙ cases (r.key == k) (λ b. (r.key == k) ≡ b → marked_source t reports k (if b then marked_source t (r ∷ []) k (source_of sources k) else source_of sources k)
+    ≡ marked_source t (r ∷ reports) k (source_of sources k))
     (λ same was. both-marks t r reports k (source_of sources k) was) (λ differs was. unnamed-first t r reports k (source_of sources k) was) refl
 
-side-marked : (t : ℕ) (reports : List Report) (k : ℕ) (e : Dir) (o : Option Source) → direction_of (marked_source t reports k o) e ≡ (if is_some o then marked (names reports k e) t (direction_of o e) else direction_of o e)
+side-marked : (t : ℕ) (reports : List Report) (k : ℕ) (e : Dir) (o : Option Source) → direction_of (marked_source t reports k o) e
+    ≡ (if is_some o then marked (names reports k e) t (direction_of o e) else direction_of o e)
 side-marked t reports k Read None = refl
 side-marked t reports k Write None = refl
 side-marked t reports k Read (Some s) = refl
@@ -111,7 +114,8 @@ has-reports t sources reports k = ap is_some (reports-at t sources reports k) �
 
 at_key-without : (fs : List (ℕ × Entry)) (n : ℕ) → at_key (without_tasks fs) n ≡ without_task (at_key fs n)
 at_key-without [] n = refl
-at_key-without (f ∷ fs) n = cases (f.0 == n) (λ b. (if b then Some (record f.1 { task = None }) else at_key (without_tasks fs) n) ≡ without_task (if b then Some f.1 else at_key fs n)) (λ same. refl) (λ differs. at_key-without fs n)
+at_key-without (f ∷ fs) n = cases (f.0 == n) (λ b. (if b then Some (record f.1 { task = None }) else at_key (without_tasks fs) n) ≡ without_task (if b then Some f.1 else at_key fs n))
+    (λ same. refl) (λ differs. at_key-without fs n)
 
 pub entry-marked : (place : Place) (named : Bool) (t : ℕ) (d : Direction) → entry_at place (marked named t d) ≡ (if named then without_task (entry_at place d) else entry_at place d)
 entry-marked place false t d = refl
@@ -162,7 +166,8 @@ pub taken-all : (x : ℕ) (place : Place) (k : ℕ) (e : Dir) (t : ℕ) (reports
     stored_task (entry_at place (direction_of (source_of sources k) e)) ≡ Some x → contains x (taken_by_all t sources reports) ≡ true
 taken-all x place k e t [] sources named is = absurd (true≢false (sym named))
 taken-all x place k e t (r ∷ reports) sources named is =
-    cases (r.key == k && names_one r e) (λ b. (r.key == k && names_one r e) ≡ b → (b || names reports k e) ≡ true → contains x (taken_by sources r ++ taken_by_all t (after_report t sources r) reports) ≡ true)
+    cases (r.key == k && names_one r e) (λ b. (r.key == k && names_one r e) ≡ b → (b || names reports k e) ≡ true →
+    contains x (taken_by sources r ++ taken_by_all t (after_report t sources r) reports) ≡ true)
     (λ here was u.
     let p = two (r.key == k) (names_one r e) was in
     contains-left x (taken_by sources r) (taken_by_all t (after_report t sources r) reports)
@@ -184,7 +189,9 @@ taken-all x place k e t (r ∷ reports) sources named is =
     same-if true d n none = ap (λ m. marked m t d) none
     same-if false d n none = refl
 
-    unmarked : (r.key == k && names_one r e) ≡ false → stored_task (entry_at place (direction_of (source_of (after_report t sources r) k) e)) ≡ stored_task (entry_at place (direction_of (source_of sources k) e))
+    unmarked : (r.key == k && names_one r e) ≡ false → stored_task (entry_at place (direction_of (source_of (after_report t sources r) k) e))
+        ≡ stored_task (entry_at place (direction_of (source_of sources k) e))
     unmarked was =
         ap (λ d. stored_task (entry_at place d))
-        (direction-reports t sources (r ∷ []) k e ∙ same-if (is_some (source_of sources k)) (direction_of (source_of sources k) e) ((r.key == k && names_one r e) || false) (or-false (r.key == k && names_one r e) ∙ was))
+        (direction-reports t sources (r ∷ []) k e
+        ∙ same-if (is_some (source_of sources k)) (direction_of (source_of sources k) e) ((r.key == k && names_one r e) || false) (or-false (r.key == k && names_one r e) ∙ was))

@@ -34,14 +34,16 @@ tidy-run (t ∷ past) w run = tidy-step run.0 w t.kind t.answer t.woken (tidy-ru
 pub agree-run : (q : Spot) (past : List Taken) (w : World) → Run past w → Agree q past (view q w)
 agree-run q [] w is = subst (λ x. Agree q [] (view q x)) (sym is) (agree-idle q)
 agree-run q (t ∷ past) w run =
-    agree-step q.key q.dir q.place t past (sight q t) t.woken (view q run.0) (view q w) refl (step-turn q run.0 w t.kind t.answer t.woken (tidy-run past run.0 run.2) run.1) (agree-run q past run.0 run.2)
+    agree-step q.key q.dir q.place t past (sight q t) t.woken (view q run.0) (view q w) refl (step-turn q run.0 w t.kind t.answer t.woken (tidy-run past run.0 run.2) run.1)
+    (agree-run q past run.0 run.2)
 
 -- each poll that didn't fail answers Ready exactly where a whole round since the begin of its interest named its direction
 pub ready-run : (past : List Taken) (w : World) → Run past w → ReadyExactly past
 ready-run [] w is = tt
 ready-run (t ∷ past) w run = (
   λ q.
-      answer-step q.key q.dir q.place past (sight q t) t.woken (view q run.0) (view q w) (step-turn q run.0 w t.kind t.answer t.woken (tidy-run past run.0 run.2) run.1) (agree-run q past run.0 run.2),
+      answer-step q.key q.dir q.place past (sight q t) t.woken (view q run.0) (view q w) (step-turn q run.0 w t.kind t.answer t.woken (tidy-run past run.0 run.2) run.1)
+      (agree-run q past run.0 run.2),
   ready-run past run.0 run.2,
 )
 

@@ -118,7 +118,8 @@ module _ (m : Machine) (key : ℕ) (dir : Dir) (s : Source) (found : source_of m
 
   pub future-made : (place task : ℕ) (fault : Bool) (sources : List (ℕ × Source)) (armed : List (ℕ × Armed)) (answer : Answer) (woken : List ℕ) →
       sources ≡ with_source m.sources.items key (with_side dir s (after_future m.ticker task (side dir s) place)) →
-      armed ≡ (if asks (side dir s) (at_key (side dir s).futures place) then with_armings m.armed.items (arming_of key (with_side dir s (after_future m.ticker task (side dir s) place))) else m.armed.items) →
+      armed ≡ (if asks (side dir s) (at_key (side dir s).futures place) then with_armings m.armed.items (arming_of key (with_side dir s (after_future m.ticker task (side dir s) place)))
+      else m.armed.items) →
       (fault ≡ true → asks (side dir s) (at_key (side dir s).futures place) ≡ false) →
       answer ≡ polled (futures.future_answer (is_fired (side dir s) place)) → woken ≡ [] →
       Step (world_of m) (PollFuture key dir place task fault) answer woken (after sources m.begun armed)

@@ -61,7 +61,8 @@ side-with Write Read s d o is = is
 side-with Write Write s d o is = refl
 
 module _ (sources : List (ℕ × Source)) (key : ℕ) (dir : Dir) (s : Source) (found : source_of sources key ≡ Some s) (d : Direction) where
-  pub direction-with : (k : ℕ) (e : Dir) → direction_of (source_of (with_source sources key (with_side dir s d)) k) e ≡ (if key == k && same_dir dir e then d else direction_of (source_of sources k) e)
+  pub direction-with : (k : ℕ) (e : Dir) → direction_of (source_of (with_source sources key (with_side dir s d)) k) e
+      ≡ (if key == k && same_dir dir e then d else direction_of (source_of sources k) e)
   direction-with k e =
       ap (λ o. direction_of o e) (at_key-with_at sources key k (with_side dir s d) (ap is_some found))
       ∙ cases (key == k) (λ b. direction_of (if b then Some (with_side dir s d) else source_of sources k) e ≡ (if b && same_dir dir e then d else direction_of (source_of sources k) e))
@@ -75,20 +76,25 @@ module _ (old new : World) (key : ℕ) (dir : Dir) (s : Source) (found : source_
   turned : Spot → Direction
   turned q = if is_of q key dir then d else direction_at old.core q.key q.dir
 
-  view-turned : (q : Spot) → view q new ≡ of q.place (if is_of q key dir then d else direction_at old.core q.key q.dir) old.core.ticker (is_some old.core.hands) (named_in old.returned q.key q.dir) (is_some (source_of old.core.sources q.key))
+  view-turned : (q : Spot) → view q new ≡ of q.place (if is_of q key dir then d else direction_at old.core q.key q.dir) old.core.ticker (is_some old.core.hands)
+      (named_in old.returned q.key q.dir) (is_some (source_of old.core.sources q.key))
   view-turned q =
       ap (λ x. of q.place x new.core.ticker (is_some new.core.hands) (named_in new.returned q.key q.dir) (is_some (source_of new.core.sources q.key)))
       (ap (λ ss. direction_of (source_of ss q.key) q.dir) sources ∙ direction-with old.core.sources key dir s found d q.key q.dir)
-      ∙ ap (λ x. of q.place (if is_of q key dir then d else direction_at old.core q.key q.dir) x (is_some new.core.hands) (named_in new.returned q.key q.dir) (is_some (source_of new.core.sources q.key))) ticker
-      ∙ ap (λ x. of q.place (if is_of q key dir then d else direction_at old.core q.key q.dir) old.core.ticker (is_some x) (named_in new.returned q.key q.dir) (is_some (source_of new.core.sources q.key))) hands
-      ∙ ap (λ x. of q.place (if is_of q key dir then d else direction_at old.core q.key q.dir) old.core.ticker (is_some old.core.hands) (named_in x q.key q.dir) (is_some (source_of new.core.sources q.key))) returned
+      ∙ ap (λ x. of q.place (if is_of q key dir then d else direction_at old.core q.key q.dir) x (is_some new.core.hands) (named_in new.returned q.key q.dir)
+      (is_some (source_of new.core.sources q.key))) ticker
+      ∙ ap (λ x. of q.place (if is_of q key dir then d else direction_at old.core q.key q.dir) old.core.ticker (is_some x) (named_in new.returned q.key q.dir)
+      (is_some (source_of new.core.sources q.key))) hands
+      ∙ ap (λ x. of q.place (if is_of q key dir then d else direction_at old.core q.key q.dir) old.core.ticker (is_some old.core.hands) (named_in x q.key q.dir)
+      (is_some (source_of new.core.sources q.key))) returned
       ∙ ap (λ x. of q.place (if is_of q key dir then d else direction_at old.core q.key q.dir) old.core.ticker (is_some old.core.hands) (named_in old.returned q.key q.dir) x)
       (ap (λ ss. is_some (source_of ss q.key)) sources ∙ keys-with_at old.core.sources key (with_side dir s d) q.key)
 
   pub view-off : (q : Spot) → is_of q key dir ≡ false → view q new ≡ view q old
   view-off q off =
       view-turned q
-      ∙ ap (λ x. of q.place x old.core.ticker (is_some old.core.hands) (named_in old.returned q.key q.dir) (is_some (source_of old.core.sources q.key))) (if-false (is_of q key dir) d (direction_at old.core q.key q.dir) off)
+      ∙ ap (λ x. of q.place x old.core.ticker (is_some old.core.hands) (named_in old.returned q.key q.dir) (is_some (source_of old.core.sources q.key)))
+      (if-false (is_of q key dir) d (direction_at old.core q.key q.dir) off)
 
   pub direction-here : (q : Spot) → is_of q key dir ≡ true → direction_at old.core q.key q.dir ≡ side dir s
   direction-here q on =
@@ -106,7 +112,8 @@ module _ (old new : World) (key : ℕ) (dir : Dir) (s : Source) (found : source_
   pub view-after : (q : Spot) → is_of q key dir ≡ true → view q new ≡ of q.place d old.core.ticker (is_some old.core.hands) (named_in old.returned q.key q.dir) true
   view-after q on =
       view-turned q
-      ∙ ap (λ x. of q.place x old.core.ticker (is_some old.core.hands) (named_in old.returned q.key q.dir) (is_some (source_of old.core.sources q.key))) (if-true (is_of q key dir) d (direction_at old.core q.key q.dir) on)
+      ∙ ap (λ x. of q.place x old.core.ticker (is_some old.core.hands) (named_in old.returned q.key q.dir) (is_some (source_of old.core.sources q.key)))
+      (if-true (is_of q key dir) d (direction_at old.core q.key q.dir) on)
       ∙ ap (of q.place d old.core.ticker (is_some old.core.hands) (named_in old.returned q.key q.dir)) (has-here q on)
 
 -- ---- a poll of the polled place, in its direction
@@ -123,7 +130,8 @@ module _ (ticker task : ℕ) (d : Direction) (is_open named : Bool) where
     wakes = λ other was differs. absurd (let e = sym is ∙ was in cc);
   }
   stored-turn armed (Some stored) is fresh =
-      cases (stored == task) (λ b. Turn ThePolled (poll_sight task (polled (poll_answer (if b then Stays else Begins (stored ∷ []) false)))) (woken_by (if b then Stays else Begins (stored ∷ []) false))
+      cases (stored == task) (λ b. Turn ThePolled (poll_sight task (polled (poll_answer (if b then Stays else Begins (stored ∷ []) false))))
+      (woken_by (if b then Stays else Begins (stored ∷ []) false))
       (of ThePolled d ticker is_open named true) (of ThePolled (after_outcome ticker task d (if b then Stays else Begins (stored ∷ []) false)) ticker is_open named true))
       (λ same. record {
         known = refl;
@@ -161,7 +169,8 @@ module _ (ticker task : ℕ) (d : Direction) (is_open named : Bool) where
   -- it leaves the futures' places
   pub polled-leaves : (n : ℕ) → of (OfFuture n) (after_direction ticker task d) ticker is_open named true ≡ of (OfFuture n) d ticker is_open named true
   polled-leaves n =
-      ap (λ fs. record { entry = at_key fs n; reported = (after_direction ticker task d).reported; ticker = ticker; is_open = is_open; named = named; has = true }) (futures-after_direction ticker task d)
+      ap (λ fs. record { entry = at_key fs n; reported = (after_direction ticker task d).reported; ticker = ticker; is_open = is_open; named = named; has = true })
+      (futures-after_direction ticker task d)
       ∙ ap (λ r. record { entry = at_key d.futures n; reported = r; ticker = ticker; is_open = is_open; named = named; has = true }) (reported-outcome (direction_outcome task d))
 
   -- ---- a poll of a future's place
@@ -187,7 +196,8 @@ module _ (ticker task : ℕ) (d : Direction) (is_open named : Bool) where
       })
 
   pub future-leaves-polled : (n : ℕ) → of ThePolled (after_future ticker task d n) ticker is_open named true ≡ of ThePolled d ticker is_open named true
-  future-leaves-polled n = cases (is_fired d n) (λ b. of ThePolled (if b then d else with_future ticker task d n) ticker is_open named true ≡ of ThePolled d ticker is_open named true) (λ f. refl) (λ f. refl)
+  future-leaves-polled n = cases (is_fired d n) (λ b. of ThePolled (if b then d else with_future ticker task d n) ticker is_open named true ≡ of ThePolled d ticker is_open named true) (λ f. refl)
+      (λ f. refl)
 
   pub future-leaves : (n m : ℕ) → (n == m) ≡ false → of (OfFuture m) (after_future ticker task d n) ticker is_open named true ≡ of (OfFuture m) d ticker is_open named true
   future-leaves n m differs =

@@ -144,10 +144,12 @@ module _ {T : Type 0} where
   keys-with_at [] key new k = refl
   keys-with_at (x ∷ xs) key new k =
       elim (cases_eq x.0 key) [
-        | inl same ↦ rw (eq-eqb x.0 key same, same) (elim (key == k) as (λ b. is_some (if b then Some new else at_key xs k) ≡ is_some (if b then Some x.1 else at_key xs k)) [ true ↦ refl | false ↦ refl ])
+        | inl same ↦ rw (eq-eqb x.0 key same, same)
+            (elim (key == k) as (λ b. is_some (if b then Some new else at_key xs k) ≡ is_some (if b then Some x.1 else at_key xs k)) [ true ↦ refl | false ↦ refl ])
         | inr differs ↦
             rw (ne_eqb x.0 key differs)
-            (elim (x.0 == k) as (λ b. is_some (if b then Some x.1 else at_key (with_at xs key new) k) ≡ is_some (if b then Some x.1 else at_key xs k)) [ true ↦ refl | false ↦ keys-with_at xs key new k ])
+            (elim (x.0 == k) as (λ b. is_some (if b then Some x.1 else at_key (with_at xs key new) k) ≡ is_some (if b then Some x.1 else at_key xs k))
+            [ true ↦ refl | false ↦ keys-with_at xs key new k ])
       ]
 
   pub rises-written : (key : ℕ) (rows : List (ℕ × T)) (at : ℕ) (new : ℕ × T) → StandsAt key rows at → KeysRiseFrom 0 rows → new.0 ≡ key → KeysRiseFrom 0 (slice_set rows at new)

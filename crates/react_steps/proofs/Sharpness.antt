@@ -27,7 +27,8 @@ use Rattle.react_steps.specs.History.{Run}
 use Rattle.react_steps.specs.Sights.{Spot, same_dir, names}
 use Rattle.react_steps.specs.World.{World, idle, Step, CancelStep, with_armings, armings_of, unarmed, without_reports, made_of, fails_of, done_or_failed, armed_at_key}
 use Rattle.react_steps.proofs.Agreeing.{cases}
-use Rattle.react_steps.proofs.Covering.{stored-waits, unarmed-poll, unarmed-future, cancel-waits, marked-waits, armed-here, armed-elsewhere, rises-armings, rises-without, armed-or-named, keeps-armed}
+use Rattle.react_steps.proofs.Covering.{stored-waits, unarmed-poll, unarmed-future, cancel-waits, marked-waits, armed-here, armed-elsewhere, rises-armings, rises-without, armed-or-named}
+use Rattle.react_steps.proofs.Covering.{keeps-armed}
 use Rattle.react_steps.proofs.Ends.{direction-reports}
 use Rattle.react_steps.proofs.Laws.{tidy-run, polls-run}
 use Rattle.react_steps.proofs.Machines.{SameKeys, keys-armings, free-too, keys-inserted, keys-removed}
@@ -139,12 +140,14 @@ module _ (old new : World) (sharp : Sharp old) (tidy : Tidy old) where
         let d = side dir found.0 in
         let d' = after_direction old.core.ticker task d in
         let o = outcome-at old.core key dir task found.0 found.1 in
-        let core_is = made.step.core ∙ sym (polled-core old.core key dir task found.0 found.1 (with_source old.core.sources key (with_side dir found.0 d')) (begun_after old.core.begun (direction_outcome task d)) refl refl) in
+        let core_is = made.step.core ∙ sym (polled-core old.core key dir task found.0 found.1 (with_source old.core.sources key (with_side dir found.0 d'))
+        (begun_after old.core.begun (direction_outcome task d)) refl refl) in
         polled-sharp old new sharp key dir found.0 found.1 d' (arms (poll_outcome old.core key dir task)) (ap (λ (c : Core). c.sources) core_is) (ap (λ (c : Core). c.hands) core_is)
         (ap (λ (w : World). w.returned) made.world) (ap (λ (w : World). w.armed) made.world) (λ none w. unarmed-poll old.core.ticker task d (sym (ap arms o) ∙ none) w)
   ]
 
-  future-sharp : (key : ℕ) (dir : Dir) (n task : ℕ) (fault : Bool) (answer : Answer) (woken : List ℕ) → is_failed answer ≡ false → Step old (PollFuture key dir n task fault) answer woken new → Sharp new
+  future-sharp : (key : ℕ) (dir : Dir) (n task : ℕ) (fault : Bool) (answer : Answer) (woken : List ℕ) → is_failed answer ≡ false → Step old (PollFuture key dir n task fault) answer woken new →
+      Sharp new
   future-sharp key dir n task fault answer woken fine step = elim (unpoll fault _ old (core.FuturePoll key dir n task) key answer woken new step.step) [
     | inl refused ↦ absurd (true≢false (sym (ap is_failed refused.answered) ∙ fine))
     | inr made ↦
@@ -217,7 +220,8 @@ module _ (old new : World) (sharp : Sharp old) (tidy : Tidy old) where
         covered = λ k e w.
             let source_is = ap (λ (c : Core). source_of c.sources k) core_is ∙ at_key-with_new_at old.core.sources key k (new_source wire) step.step.free in
             let armed_is = ap (λ (l : List (ℕ × Armed)). at_key l k) armed ∙ at_key-with_new_at old.armed key k unarmed free in
-            cases (key == k) (λ b. source_of new.core.sources k ≡ (if b then Some (new_source wire) else source_of old.core.sources k) → at_key new.armed k ≡ (if b then Some unarmed else at_key old.armed k) →
+            cases (key == k) (λ b. source_of new.core.sources k ≡ (if b then Some (new_source wire) else source_of old.core.sources k) → at_key new.armed k
+            ≡ (if b then Some unarmed else at_key old.armed k) →
             (armed_in e (at_key new.armed k) || named_in new.returned k e) ≡ true)
             (λ same there a. absurd (true≢false (sym w ∙ ap waits (ap (λ o. direction_of o e) there) ∙ new-waits wire e)))
             (λ differs there a. ap (λ o. armed_in e o || named_in new.returned k e) a ∙ ap (λ r. armed_in e (at_key old.armed k) || named_in r k e) returned
@@ -287,7 +291,8 @@ module _ (old new : World) (sharp : Sharp old) (tidy : Tidy old) where
             ∙ armed-or-named e old.armed reports k (or-none (armed_in e (at_key old.armed k)) was);
       }
 
-  keys-one_of : (t : ℕ) (armed : List (ℕ × Armed)) (r : Report) (sources : List (ℕ × Source)) → SameKeys armed sources → SameKeys (with_armings armed (armings_by t sources r)) (after_report t sources r)
+  keys-one_of : (t : ℕ) (armed : List (ℕ × Armed)) (r : Report) (sources : List (ℕ × Source)) → SameKeys armed sources →
+      SameKeys (with_armings armed (armings_by t sources r)) (after_report t sources r)
   keys-one_of t armed r sources keys k = keys-armings armed (armings_by t sources r) k ∙ keys k ∙ sym (keys-reports t sources (r ∷ []) k)
 
   all-made : (fault : Bool) (armings : List Arming) → is_failed (done_or_failed (fails_of fault armings)) ≡ false → made_of fault armings ≡ armings
@@ -332,10 +337,12 @@ module _ (old new : World) (sharp : Sharp old) (tidy : Tidy old) where
           waits (if is_some (source_of old.core.sources k) then marked (names reports k e) t (direction_at old.core k e) else direction_at old.core k e) ≡ true →
           armed_in e (at_key (with_armings old.armed (armings_by_all t old.core.sources reports)) k) ≡ true
       by-name true reports k e t is was w =
-          absurd (true≢false (sym w ∙ ap (λ b. waits (if is_some (source_of old.core.sources k) then marked b t (direction_at old.core k e) else direction_at old.core k e)) is ∙ named (source_of old.core.sources k) e t))
+          absurd (true≢false (sym w ∙ ap (λ b. waits (if is_some (source_of old.core.sources k) then marked b t (direction_at old.core k e) else direction_at old.core k e)) is
+          ∙ named (source_of old.core.sources k) e t))
       by-name false reports k e t is was w =
           let waited : waits (direction_at old.core k e) ≡ true =
-          sym (unnamed (is_some (source_of old.core.sources k)) (direction_at old.core k e) t) ∙ sym (ap (λ b. waits (if is_some (source_of old.core.sources k) then marked b t (direction_at old.core k e) else direction_at old.core k e)) is) ∙ w in
+          sym (unnamed (is_some (source_of old.core.sources k)) (direction_at old.core k e) t)
+          ∙ sym (ap (λ b. waits (if is_some (source_of old.core.sources k) then marked b t (direction_at old.core k e) else direction_at old.core k e)) is) ∙ w in
           let covered = sharp.covered k e waited in
           let armed : armed_in e (at_key old.armed k) ≡ true =
           or-none (armed_in e (at_key old.armed k)) (ap (λ b. armed_in e (at_key old.armed k) || b) (sym is) ∙ ap (λ r. armed_in e (at_key old.armed k) || named_in r k e) (sym was) ∙ covered) in

@@ -44,7 +44,8 @@ rises-marked false t d r = r
 
 module _ (old new : World) (tidy : Tidy old) where
   -- one direction is written back
-  written : (key : ℕ) (dir : Dir) (s : Source) → source_of old.core.sources key ≡ Some s → (d : Direction) → new.core.sources ≡ with_source old.core.sources key (with_side dir s d) → Rises d → Tidy new
+  written : (key : ℕ) (dir : Dir) (s : Source) → source_of old.core.sources key ≡ Some s → (d : Direction) → new.core.sources ≡ with_source old.core.sources key (with_side dir s d) → Rises d →
+      Tidy new
   written key dir s found d is rises = record {
     sources = subst (KeysRiseFrom 0) (sym is) (KeysRiseFrom-with_at 0 old.core.sources key (with_side dir s d) tidy.sources);
     futures = λ k e. subst Rises (sym (ap (λ ss. direction_of (source_of ss k) e) is ∙ direction-with old.core.sources key dir s found d k e))
@@ -110,7 +111,9 @@ module _ (old new : World) (tidy : Tidy old) where
         let d = side dir found.0 in
         let d' = after_direction old.core.ticker task d in
         written key dir found.0 found.1 d'
-        (ap (λ (c : Core). c.sources) (made.step.core ∙ sym (polled-core old.core key dir task found.0 found.1 (with_source old.core.sources key (with_side dir found.0 d')) (begun_after old.core.begun (direction_outcome task d)) refl refl)))
+        (ap (λ (c : Core). c.sources) (made.step.core
+        ∙ sym (polled-core old.core key dir task found.0 found.1 (with_source old.core.sources key (with_side dir found.0 d')) (begun_after old.core.begun (direction_outcome task d))
+        refl refl)))
         (subst (KeysRiseFrom 0) (sym (futures-after_direction old.core.ticker task d)) (side-rises key dir found.0 found.1))
   ]
 

@@ -67,7 +67,8 @@ module _ (ticker task : ℕ) (d : Direction) (is_open named : Bool) where
       (of place d ticker is_open named true) (of place (without_future d n) ticker is_open named true)
   cancel-at rises n ThePolled woken = refl
   cancel-at rises n (OfFuture m) woken =
-      cases (n == m) (λ b. (n == m) ≡ b → Turn (OfFuture m) (if b then GivenUp else Elsewhere) woken (of (OfFuture m) d ticker is_open named true) (of (OfFuture m) (without_future d n) ticker is_open named true))
+      cases (n == m) (λ b. (n == m) ≡ b → Turn (OfFuture m) (if b then GivenUp else Elsewhere) woken (of (OfFuture m) d ticker is_open named true)
+      (of (OfFuture m) (without_future d n) ticker is_open named true))
       (λ same was. subst (λ j. Turn (OfFuture j) GivenUp woken (of (OfFuture j) d ticker is_open named true) (of (OfFuture j) (without_future d n) ticker is_open named true)) (eqb-true n m same)
       (cancel-turn ticker task d is_open named rises true n))
       (λ differs was. cancel-leaves ticker task d is_open named rises true n m differs) refl
@@ -87,7 +88,8 @@ refused-at q true s woken old new is none = subst (λ x. Turn q.place x woken (v
 refused-at q false s woken old new is none = ap (view q) is
 
 module _ (q : Spot) (old new : World) (answer : Answer) (woken : List ℕ) (tidy : Tidy old) where
-  poll-turn : (key : ℕ) (dir : Dir) (task : ℕ) (fault : Bool) → Step old (Poll key dir task fault) answer woken new → Turn q.place (sight_of q (Poll key dir task fault) answer) woken (view q old) (view q new)
+  poll-turn : (key : ℕ) (dir : Dir) (task : ℕ) (fault : Bool) → Step old (Poll key dir task fault) answer woken new →
+      Turn q.place (sight_of q (Poll key dir task fault) answer) woken (view q old) (view q new)
   poll-turn key dir task fault step = elim (unpoll fault _ old (core.PolledPoll key dir task) key answer woken new step.step) [
     | inl refused ↦ refused-at q (is_of q key dir && same_place ThePolled q.place) (poll_sight task answer) woken old new refused.world (ap (poll_sight task) refused.answered)
     | inr made ↦
@@ -97,7 +99,8 @@ module _ (q : Spot) (old new : World) (answer : Answer) (woken : List ℕ) (tidy
         let o = outcome-at old.core key dir task s found.1 in
         let d' = after_direction old.core.ticker task d in
         let T = old.core.ticker in
-        let core_is = made.step.core ∙ sym (polled-core old.core key dir task s found.1 (with_source old.core.sources key (with_side dir s d')) (begun_after old.core.begun (direction_outcome task d)) refl refl) in
+        let core_is = made.step.core ∙ sym (polled-core old.core key dir task s found.1 (with_source old.core.sources key (with_side dir s d'))
+        (begun_after old.core.begun (direction_outcome task d)) refl refl) in
         let sources = ap (λ (c : Core). c.sources) core_is in
         let ticker = ap (λ (c : Core). c.ticker) core_is in
         let hands = ap (λ (c : Core). c.hands) core_is in
@@ -109,8 +112,10 @@ module _ (q : Spot) (old new : World) (answer : Answer) (woken : List ℕ) (tidy
         let before = view-before old new key dir s found.1 d' sources ticker hands returned q on in
         let after = view-after old new key dir s found.1 d' sources ticker hands returned q on in
         subst (λ a. Turn q.place (if true && same_place ThePolled q.place then poll_sight task a else Elsewhere) woken (view q old) (view q new)) (sym answer_is)
-        (subst (λ ws. Turn q.place (if true && same_place ThePolled q.place then poll_sight task (polled (poll_answer (direction_outcome task d))) else Elsewhere) ws (view q old) (view q new)) (sym woken_is)
-        (subst (λ v. Turn q.place (if true && same_place ThePolled q.place then poll_sight task (polled (poll_answer (direction_outcome task d))) else Elsewhere) (woken_by (direction_outcome task d)) v (view q new)) (sym before)
+        (subst (λ ws. Turn q.place (if true && same_place ThePolled q.place then poll_sight task (polled (poll_answer (direction_outcome task d))) else Elsewhere) ws (view q old) (view q new))
+        (sym woken_is)
+        (subst (λ v. Turn q.place (if true && same_place ThePolled q.place then poll_sight task (polled (poll_answer (direction_outcome task d))) else Elsewhere)
+        (woken_by (direction_outcome task d)) v (view q new)) (sym before)
         (subst (Turn q.place (if true && same_place ThePolled q.place then poll_sight task (polled (poll_answer (direction_outcome task d))) else Elsewhere) (woken_by (direction_outcome task d))
         (of q.place d T (is_some old.core.hands) (named_in old.returned q.key q.dir) true)) (sym after)
         (polled-at T task d (is_some old.core.hands) (named_in old.returned q.key q.dir) q.place)))))
@@ -139,7 +144,8 @@ module _ (q : Spot) (old new : World) (answer : Answer) (woken : List ℕ) (tidy
         let before = view-before old new key dir s found.1 d' sources ticker hands returned q on in
         let after = view-after old new key dir s found.1 d' sources ticker hands returned q on in
         subst (λ a. Turn q.place (if true && same_place (OfFuture n) q.place then poll_sight task a else Elsewhere) woken (view q old) (view q new)) (sym answer_is)
-        (subst (λ ws. Turn q.place (if true && same_place (OfFuture n) q.place then poll_sight task (polled (future_answer (is_fired d n))) else Elsewhere) ws (view q old) (view q new)) (sym made.step.wakes)
+        (subst (λ ws. Turn q.place (if true && same_place (OfFuture n) q.place then poll_sight task (polled (future_answer (is_fired d n))) else Elsewhere) ws (view q old) (view q new))
+        (sym made.step.wakes)
         (subst (λ v. Turn q.place (if true && same_place (OfFuture n) q.place then poll_sight task (polled (future_answer (is_fired d n))) else Elsewhere) [] v (view q new)) (sym before)
         (subst (Turn q.place (if true && same_place (OfFuture n) q.place then poll_sight task (polled (future_answer (is_fired d n))) else Elsewhere) []
         (of q.place d T (is_some old.core.hands) (named_in old.returned q.key q.dir) true)) (sym after)
@@ -188,13 +194,15 @@ module _ (q : Spot) (old new : World) (answer : Answer) (woken : List ℕ) (tidy
           let before = view-before old new key dir s is d' sources ticker hands returned q on in
           let after = view-after old new key dir s is d' sources ticker hands returned q on in
           subst (λ v. Turn q.place (if true && same_place (OfFuture n) q.place then GivenUp else Elsewhere) woken v (view q new)) (sym before)
-          (subst (Turn q.place (if true && same_place (OfFuture n) q.place then GivenUp else Elsewhere) woken (of q.place d T (is_some old.core.hands) (named_in old.returned q.key q.dir) true)) (sym after)
+          (subst (Turn q.place (if true && same_place (OfFuture n) q.place then GivenUp else Elsewhere) woken (of q.place d T (is_some old.core.hands) (named_in old.returned q.key q.dir) true))
+          (sym after)
           (cancel-at T 0 d (is_some old.core.hands) (named_in old.returned q.key q.dir) rises n q.place woken)))
           (λ off. view-off old new key dir s is d' sources ticker hands returned q off)
 
   -- ---- an insertion and a removal
 
-  view-of : (d : Direction) (t : ℕ) (h : Option (List ℕ)) (r : Option (List Report)) (has : Bool) → direction_at new.core q.key q.dir ≡ d → new.core.ticker ≡ t → new.core.hands ≡ h → new.returned ≡ r →
+  view-of : (d : Direction) (t : ℕ) (h : Option (List ℕ)) (r : Option (List Report)) (has : Bool) → direction_at new.core q.key q.dir ≡ d → new.core.ticker ≡ t → new.core.hands ≡ h → new.returned
+      ≡ r →
       is_some (source_of new.core.sources q.key) ≡ has → view q new ≡ of q.place d t (is_some h) (named_in r q.key q.dir) has
   view-of d t h r has d_is t_is h_is r_is has_is =
       ap (λ x. of q.place x new.core.ticker (is_some new.core.hands) (named_in new.returned q.key q.dir) (is_some (source_of new.core.sources q.key))) d_is
@@ -226,9 +234,11 @@ module _ (q : Spot) (old new : World) (answer : Answer) (woken : List ℕ) (tidy
       let none : direction_at old.core q.key q.dir ≡ idle = ap (λ o. direction_of o q.dir) (ap (source_of old.core.sources) (sym (eqb-true key q.key was)) ∙ step.step.free) in
       record {
         free = ap (entry_at q.place) none ∙ entry-idle q.place;
-        view = view-of (direction_at old.core q.key q.dir) old.core.ticker old.core.hands old.returned true (ap (λ o. direction_of o q.dir) there ∙ new-idle wire q.dir ∙ sym none) ticker hands returned (ap is_some there);
+        view = view-of (direction_at old.core q.key q.dir) old.core.ticker old.core.hands old.returned true (ap (λ o. direction_of o q.dir) there ∙ new-idle wire q.dir ∙ sym none)
+            ticker hands returned (ap is_some there);
       })
-      (λ differs there was. view-of (direction_at old.core q.key q.dir) old.core.ticker old.core.hands old.returned (is_some (source_of old.core.sources q.key)) (ap (λ o. direction_of o q.dir) there) ticker hands returned (ap is_some there))
+      (λ differs there was. view-of (direction_at old.core q.key q.dir) old.core.ticker old.core.hands old.returned (is_some (source_of old.core.sources q.key))
+      (ap (λ o. direction_of o q.dir) there) ticker hands returned (ap is_some there))
       sources refl)
 
   remove-turned : (key : ℕ) (fault : Bool) → Step old (Remove key fault) answer woken new → Turn q.place (sight_of q (Remove key fault) answer) woken (view q old) (view q new)
@@ -238,11 +248,13 @@ module _ (q : Spot) (old new : World) (answer : Answer) (woken : List ℕ) (tidy
       let ticker = ap (λ (c : Core). c.ticker) core_is in
       let hands = ap (λ (c : Core). c.hands) core_is in
       let returned = ap (λ (w : World). w.returned) step.world in
-      cases (key == q.key) (λ b. source_of new.core.sources q.key ≡ (if b then None else source_of old.core.sources q.key) → Turn q.place (if b then SourceGone else Elsewhere) woken (view q old) (view q new))
+      cases (key == q.key) (λ b. source_of new.core.sources q.key ≡ (if b then None else source_of old.core.sources q.key) →
+      Turn q.place (if b then SourceGone else Elsewhere) woken (view q old) (view q new))
       (λ same there.
       view-of idle old.core.ticker old.core.hands old.returned false (ap (λ o. direction_of o q.dir) there) ticker hands returned (ap is_some there)
       ∙ ap (λ e. record { entry = e; reported = None; ticker = old.core.ticker; is_open = is_some old.core.hands; named = named_in old.returned q.key q.dir; has = false }) (entry-idle q.place))
-      (λ differs there. view-of (direction_at old.core q.key q.dir) old.core.ticker old.core.hands old.returned (is_some (source_of old.core.sources q.key)) (ap (λ o. direction_of o q.dir) there) ticker hands returned (ap is_some there))
+      (λ differs there. view-of (direction_at old.core q.key q.dir) old.core.ticker old.core.hands old.returned (is_some (source_of old.core.sources q.key)) (ap (λ o. direction_of o q.dir) there)
+      ticker hands returned (ap is_some there))
       sources
 
   -- ---- a round
@@ -258,18 +270,21 @@ module _ (q : Spot) (old new : World) (answer : Answer) (woken : List ℕ) (tidy
             (ap (λ (c : Core). is_some (source_of c.sources q.key)) core_is);
       }
 
-  return-turned : (reports : List Report) (fault : Bool) → Step old (Returned reports fault) answer woken new → Turn q.place (sight_of q (Returned reports fault) answer) woken (view q old) (view q new)
+  return-turned : (reports : List Report) (fault : Bool) → Step old (Returned reports fault) answer woken new →
+      Turn q.place (sight_of q (Returned reports fault) answer) woken (view q old) (view q new)
   return-turned reports true step =
       let made = step.step in
       subst (λ a. Turn q.place (unless_failed a (WaitReturns (names reports q.key q.dir)) (WaitReturns false)) woken (view q old) (view q new)) (sym made.answered)
       (view-of (direction_at old.core q.key q.dir) old.core.ticker old.core.hands (Some []) (is_some (source_of old.core.sources q.key))
-      (ap (λ (c : Core). direction_at c q.key q.dir) made.step.core) (ap (λ (c : Core). c.ticker) made.step.core) (ap (λ (c : Core). c.hands) made.step.core) (ap (λ (w : World). w.returned) made.world)
+      (ap (λ (c : Core). direction_at c q.key q.dir) made.step.core) (ap (λ (c : Core). c.ticker) made.step.core) (ap (λ (c : Core). c.hands) made.step.core)
+      (ap (λ (w : World). w.returned) made.world)
       (ap (λ (c : Core). is_some (source_of c.sources q.key)) made.step.core))
   return-turned reports false step =
       let made = step.step in
       subst (λ a. Turn q.place (unless_failed a (WaitReturns (names reports q.key q.dir)) (WaitReturns false)) woken (view q old) (view q new)) (sym made.answered)
       (view-of (direction_at old.core q.key q.dir) old.core.ticker old.core.hands (Some reports) (is_some (source_of old.core.sources q.key))
-      (ap (λ (c : Core). direction_at c q.key q.dir) made.step.core) (ap (λ (c : Core). c.ticker) made.step.core) (ap (λ (c : Core). c.hands) made.step.core) (ap (λ (w : World). w.returned) made.world)
+      (ap (λ (c : Core). direction_at c q.key q.dir) made.step.core) (ap (λ (c : Core). c.ticker) made.step.core) (ap (λ (c : Core). c.hands) made.step.core)
+      (ap (λ (w : World). w.returned) made.world)
       (ap (λ (c : Core). is_some (source_of c.sources q.key)) made.step.core))
 
   finish-turned : (later : Option ℕ) (fault : Bool) → Step old (Finish later fault) answer woken new → Turn q.place RoundEnds woken (view q old) (view q new)
@@ -309,7 +324,8 @@ module _ (q : Spot) (old new : World) (answer : Answer) (woken : List ℕ) (tidy
             named = false;
             has = has;
           }
-      ended true true none = ap (λ e. record { entry = e; reported = Some old.core.ticker; ticker = old.core.ticker; is_open = false; named = false; has = true }) (entry-marked q.place true old.core.ticker (direction_at old.core q.key q.dir))
+      ended true true none = ap (λ e. record { entry = e; reported = Some old.core.ticker; ticker = old.core.ticker; is_open = false; named = false; has = true })
+          (entry-marked q.place true old.core.ticker (direction_at old.core q.key q.dir))
       ended true false none = refl
       ended false true none =
           let e = none refl in
@@ -317,7 +333,8 @@ module _ (q : Spot) (old new : World) (answer : Answer) (woken : List ℕ) (tidy
       ended false false none = refl
 
 -- each step, as a place sees it
-pub step-turn : (q : Spot) (old new : World) (kind : Kind) (answer : Answer) (woken : List ℕ) → Tidy old → Step old kind answer woken new → Turn q.place (sight_of q kind answer) woken (view q old) (view q new)
+pub step-turn : (q : Spot) (old new : World) (kind : Kind) (answer : Answer) (woken : List ℕ) → Tidy old → Step old kind answer woken new →
+    Turn q.place (sight_of q kind answer) woken (view q old) (view q new)
 step-turn q old new (Poll key dir task fault) answer woken tidy step = poll-turn q old new answer woken tidy key dir task fault step
 step-turn q old new (PollFuture key dir place task fault) answer woken tidy step = future-turned q old new answer woken tidy key dir place task fault step
 step-turn q old new (Cancel key dir place) answer woken tidy step = cancel-turned q old new answer woken tidy key dir place step

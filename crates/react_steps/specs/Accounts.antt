@@ -13,7 +13,8 @@ use Rattle.react_steps.specs.declared.kind.Answer.{Answer}
 use Rattle.react_steps.specs.declared.kind.Answer.TheVariants.{Ready, Pending, Begun, Done, Failed}
 use Rattle.react_steps.specs.declared.kind.Taken.{Taken}
 use Rattle.react_steps.specs.Sights.{Place, ThePolled, OfFuture, Spot, Sight, ReadyThere, PendingThere, GivenUp}
-use Rattle.react_steps.specs.Sights.{NewSource, SourceGone, RoundBegins, WaitReturns, RoundEnds, Elsewhere, sight, names}
+use Rattle.react_steps.specs.Sights.{NewSource, SourceGone, RoundBegins, WaitReturns, RoundEnds, Elsewhere, sight}
+use Rattle.react_steps.specs.Sights.{names}
 use Rattle.react_steps.specs.World.{World}
 
 -- ---- what the world stores
@@ -82,6 +83,7 @@ pub record Accounted (steps : List Taken) (world : World) : Type 0 where
   -- each poll that was Pending has its task stored, or a later step accounts for it
   pub polls : (later earlier : List Taken) (t : Taken) (q : Spot) (task : ℕ) → steps ≡ later ++ t ∷ earlier →
       sight q t ≡ PendingThere task → (is_followed q task later ≡ true) ⊎ (stored_at world.core q ≡ Some task)
-  -- the direction of each task that is stored is armed, or named by the reports with which the open round's wait returned
+  -- where no call of the poller failed, the direction of each task that is stored is armed, or named by the reports
+  -- with which the open round's wait returned
   pub armed : NoneFailed steps → (q : Spot) (task : ℕ) → stored_at world.core q ≡ Some task →
       (armed_in q.dir (at_key world.armed q.key) || named_in world.returned q.key q.dir) ≡ true

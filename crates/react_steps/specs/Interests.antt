@@ -36,7 +36,8 @@ waiting_by (WaitReturns n) named before = before
 waiting_by RoundEnds named before = if named then None else before
 waiting_by Elsewhere named before = before
 
--- the task of the last poll there, where that was Pending and no round that ended since had a wait that named the direction
+-- the task of the last poll there, where that was Pending and no round that ended since had a wait that named the
+-- direction
 abbrev pub waiting : Spot → List Taken → Option ℕ
 waiting q [] = None
 waiting q (t ∷ earlier) = waiting_by (sight q t) (told q earlier) (waiting q earlier)

@@ -40,7 +40,8 @@ unarmed = record { read = false; write = false }
 -- an arming names all directions of its key in place of those that it named before
 abbrev pub with_armings : List (ℕ × Armed) → List Arming → List (ℕ × Armed)
 with_armings armed [] = armed
-with_armings armed (a ∷ armings) = with_armings (with_at armed a.key (record { read = a.read; write = a.write })) armings
+with_armings armed (a ∷ armings) =
+    with_armings (with_at armed a.key (record { read = a.read; write = a.write })) armings
 
 -- the arming of all directions of a source that a task waits for, where there is one
 abbrev pub armings_of : ℕ → Option Source → List Arming
@@ -153,10 +154,10 @@ pub record FinishStep (old : World) (reports : List Report) (later : Option ℕ)
     returned = None;
   }
 
--- from the old world, a party may take a step of this kind, which gives this answer, wakes these tasks and leaves the new
--- world. A poll and a removal are steps only of a key with a source, an insertion only of one without, a begin only
--- where no round is open, a return only where the open round's wait hasn't returned, and an end only where it has. Where
--- `fault` is set, the step's poller call fails
+-- from the old world, a party may take a step of this kind, which gives this answer, wakes these tasks and leaves the
+-- new world. A poll and a removal are steps only of a key with a source, an insertion only of one without, a begin only
+-- where no round is open, a return only where the open round's wait hasn't returned, and an end only where it has.
+-- Where `fault` is set, the step's poller call fails
 abbrev pub Step : World → Kind → Answer → List ℕ → World → Type 0
 Step old (PollPlace key dir task fault) answer woken new = record {
   known : HasSource old.core key;

@@ -333,8 +333,8 @@ fn take_report(
     Ok(false)
 }
 
-/// Goes through the reports in order, to their end where the poller refuses one too. Where `fault` is set, the first call
-/// of the poller fails. Answers whether one did.
+/// Goes through the reports in order, to their end where the poller refuses one too. Where `fault` is set, the first
+/// call of the poller fails. Answers whether one did.
 fn take_reports(
     ticker: u64,
     sources: &mut Vec<(usize, Source)>,

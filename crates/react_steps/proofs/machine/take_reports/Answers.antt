@@ -27,7 +27,8 @@ loop-report-preserved c =
     let sources = sources_step t s s' rs i d lt now.sources ∙ was.sources in
     let hands = hands_step t s s' rs i d lt now.sources c.loop-report.hands.items c.take_report.new.hands.items now.hands ∙ was.hands in
     let rises : KeysRiseFrom 0 s' = rw now.sources (rises-report t s (get_or rs i d) was.rises) in
-    let armed_was : with_armings c.loop-report.armed.items (made_of c.loop-report.fails (a ++ rest)) ≡ with_armings c.args.armed.now.items (made_of c.args.fault (armings_by_all t c.args.sources.now.items rs)) =
+    let armed_was : with_armings c.loop-report.armed.items (made_of c.loop-report.fails (a ++ rest))
+    ≡ with_armings c.args.armed.now.items (made_of c.args.fault (armings_by_all t c.args.sources.now.items rs)) =
     ap (λ l. with_armings c.loop-report.armed.items (made_of c.loop-report.fails l)) (sym all) ∙ was.armed in
     let failed_was : (c.loop-report.failed || fails_of c.loop-report.fails (a ++ rest)) ≡ fails_of c.args.fault (armings_by_all t c.args.sources.now.items rs) =
     ap (λ l. c.loop-report.failed || fails_of c.loop-report.fails l) (sym all) ∙ was.failed in

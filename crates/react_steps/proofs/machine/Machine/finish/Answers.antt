@@ -12,6 +12,7 @@ returns-clause-sound c =
     record {
       sources = rw done.sources (rises-reports m.ticker m.sources.items c.as_slice.result.now c.requires.sources);
       armed = c.take_reports.ensures.rises;
-      keys = λ key. rw (done.sources, done.armed) (keys-armings m.armed.items (made_of c.args.fault (armings_by_all m.ticker m.sources.items c.as_slice.result.now)) key ∙ c.requires.keys key ∙ sym (keys-reports m.ticker m.sources.items c.as_slice.result.now key));
+      keys = λ key. rw (done.sources, done.armed) (keys-armings m.armed.items (made_of c.args.fault (armings_by_all m.ticker m.sources.items c.as_slice.result.now)) key ∙ c.requires.keys key
+          ∙ sym (keys-reports m.ticker m.sources.items c.as_slice.result.now key));
       returned = λ u. absurd (not-none _ c.take.ensures.after u);
     }

@@ -45,6 +45,7 @@ returns-clause-sound c =
     record {
       sources = rw written (KeysRiseFrom-with_at 0 m.sources.items key c.poll-asked.new.self c.requires.sources);
       armed = c.arm_waiting.ensures.rises;
-      keys = sound-keys m.sources.items _ m.armed.items c.arm_waiting.new.armed.items key c.poll-asked.new.self c.poll_arms-arms.result (arming_of key c.poll-asked.new.self) c.requires.keys written c.arm_waiting.ensures.armed;
+      keys = sound-keys m.sources.items _ m.armed.items c.arm_waiting.new.armed.items key c.poll-asked.new.self c.poll_arms-arms.result (arming_of key c.poll-asked.new.self)
+          c.requires.keys written c.arm_waiting.ensures.armed;
       returned = c.requires.returned;
     }
