@@ -73,9 +73,9 @@ impl List {
     }
 }
 
-/// The answer of the last step, and the first task that it woke.
-fn last(history: &[Taken]) -> Option<(Answer, Option<u64>)> {
-    let taken = history.last()?;
+/// The answer of a step, and the first task that it woke.
+fn made(history: &[Taken], index: usize) -> Option<(Answer, Option<u64>)> {
+    let taken = history.get(index)?;
     Some((taken.answer, taken.woken.as_slice().first().copied()))
 }
 
@@ -89,13 +89,17 @@ fn a_round_that_had_begun_is_no_answer(rt: HostRuntime) -> Result<(), Fail> {
     list.poll(0, 5)?;
     let world = list.run()?;
     assert_eq!(rt; world.history().len(), 6);
-    assert_eq!(rt; last(world.history()), Some((Answer::Pending, None)));
+    let begun = Begun {
+        round: 1,
+        timeout: None,
+    };
+    assert_eq!(rt;
+        made(world.history(), 1),
+        Some((Answer::Begun(begun), None))
+    );
     // The round's end woke the task all the same.
-    assert_eq!(rt; last(&world.history()[..5]), Some((Answer::Done, Some(5))));
-    assert_eq!(rt; last(&world.history()[..2]), Some((
-        Answer::Begun(Begun { round: 1, timeout: None }),
-        None,
-    )));
+    assert_eq!(rt; made(world.history(), 4), Some((Answer::Done, Some(5))));
+    assert_eq!(rt; made(world.history(), 5), Some((Answer::Pending, None)));
     Ok(())
 }
 
@@ -111,7 +115,7 @@ fn a_later_round_is_one(rt: HostRuntime) -> Result<(), Fail> {
     list.end(0)?;
     list.poll(0, 5)?;
     let world = list.run()?;
-    assert_eq!(rt; last(world.history()), Some((Answer::Ready, None)));
+    assert_eq!(rt; made(world.history(), 9), Some((Answer::Ready, None)));
     Ok(())
 }
 
@@ -142,6 +146,9 @@ fn many_steps_over_many_keys(rt: HostRuntime) -> Result<(), Fail> {
     }
     let world = list.run()?;
     assert_eq!(rt; world.history().len(), 133_000);
-    assert_eq!(rt; last(world.history()).map(|(answer, _)| answer), Some(Answer::Done));
+    assert_eq!(rt;
+        made(world.history(), 132_999),
+        Some((Answer::Done, Some(5)))
+    );
     Ok(())
 }
