@@ -1,0 +1,14 @@
+pub mod Rows
+pub mod Clearing
+pub mod Machines
+pub mod Reporting
+pub mod Histories
+pub mod Views
+pub mod Agreeing
+pub mod Moves
+pub mod Ends
+pub mod Turning
+pub mod Tidying
+pub mod Laws
+pub mod Covering
+pub mod Sharpness
