@@ -21,7 +21,7 @@ IsFrom (received.Got n) sender = IsSome sender
 IsFrom received.End sender = IsNone sender
 IsFrom received.NotReady sender = IsNone sender
 
--- a datagram is taken whole or not at all, but the system may say that it took less
+-- at most what was offered: a datagram may be empty
 
 abbrev pub IsPosted : ℕ → Sent → Type 0
 IsPosted offered (sent.Took n) = n ≤ offered

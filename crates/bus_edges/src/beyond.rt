@@ -149,7 +149,11 @@ impl<R: Processes> Edges<R> {
     }
 
     /// Takes the next datagram, and tells who sent it. What doesn't fit into the slice is lost.
-    pub fn recv_from(&mut self, wire: u32, into: &mut [u8]) -> Result<(Received, Option<Peer>), Fault>
+    pub fn recv_from(
+        &mut self,
+        wire: u32,
+        into: &mut [u8],
+    ) -> Result<(Received, Option<Peer>), Fault>
         ensures amount { IfOk result (λ r. IsArrived (length into.old) r.0) }
         ensures sender { IfOk result (λ r. IsFrom r.0 r.1) }
         ensures room { length into.new ≡ length into.old }
@@ -162,7 +166,11 @@ impl<R: Processes> Edges<R> {
     }
 
     /// Looks at the next datagram, which stays there, and tells who sent it.
-    pub fn peek_from(&mut self, wire: u32, into: &mut [u8]) -> Result<(Received, Option<Peer>), Fault>
+    pub fn peek_from(
+        &mut self,
+        wire: u32,
+        into: &mut [u8],
+    ) -> Result<(Received, Option<Peer>), Fault>
         ensures amount { IfOk result (λ r. IsArrived (length into.old) r.0) }
         ensures sender { IfOk result (λ r. IsFrom r.0 r.1) }
         ensures room { length into.new ≡ length into.old }

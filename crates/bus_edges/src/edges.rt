@@ -197,13 +197,7 @@ impl<R: Net + Processes + Files> Dialer for Edges<R> {
         self.counts.of_dial(wire, Err(Fault::Failed))
     }
 
-    fn lookup(
-        &mut self,
-        alloc: Global,
-        wire: u32,
-        host: &str,
-        port: u16,
-    ) -> Result<Peers, Fault> {
+    fn lookup(&mut self, alloc: Global, wire: u32, host: &str, port: u16) -> Result<Peers, Fault> {
         let answer = looked_up(&self.rt, alloc, host, port);
         self.counts.of_dial(wire, answer)
     }
@@ -229,7 +223,9 @@ impl<R: Net + Processes + Files> Dialer for Edges<R> {
         args: &Args,
     ) -> Result<Opened, Fault> {
         self.make_room(wire)?;
-        self.table.make_room_for_programs().map_err(OutOfMemory::from)?;
+        self.table
+            .make_room_for_programs()
+            .map_err(OutOfMemory::from)?;
         let socket = match arg0 {
             Some(_) => Err(Fault::Failed),
             None => started(&self.rt, self.alloc, program, args),

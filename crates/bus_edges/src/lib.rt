@@ -13,3 +13,6 @@ mod table;
 
 pub use beyond::Accepted;
 pub use edges::Edges;
+
+#[cfg(test)]
+mod tests;

@@ -9,9 +9,8 @@ use crate::streams::{
     arrived, arrived_from, fault_of, may_come, peek_unix, posted, read_from, read_pipe, received,
     write_pipe, write_to,
 };
-use mio::event;
 use mio::net::{TcpListener, TcpStream, UdpSocket, UnixListener, UnixStream};
-use mio::{Interest, Registry, Token};
+use mio::{Interest, Registry, Token, event};
 use react_core::outside::{Fault, Peer, Received, Sent};
 use std::process::{Child, OpenProcess};
 
@@ -123,10 +122,7 @@ impl<P: OpenProcess + Drop> Socket<P> {
         arrived(answer, into.len())
     }
 
-    pub(crate) fn recv_from(
-        &mut self,
-        into: &mut [u8],
-    ) -> Result<(Received, Option<Peer>), Fault>
+    pub(crate) fn recv_from(&mut self, into: &mut [u8]) -> Result<(Received, Option<Peer>), Fault>
         ensures amount { IfOk result (λ r. IsArrived (length into.old) r.0) }
         ensures sender { IfOk result (λ r. IsFrom r.0 r.1) }
         ensures room { length into.new ≡ length into.old }
@@ -136,10 +132,7 @@ impl<P: OpenProcess + Drop> Socket<P> {
         arrived_from(answer, into.len())
     }
 
-    pub(crate) fn peek_from(
-        &mut self,
-        into: &mut [u8],
-    ) -> Result<(Received, Option<Peer>), Fault>
+    pub(crate) fn peek_from(&mut self, into: &mut [u8]) -> Result<(Received, Option<Peer>), Fault>
         ensures amount { IfOk result (λ r. IsArrived (length into.old) r.0) }
         ensures sender { IfOk result (λ r. IsFrom r.0 r.1) }
         ensures room { length into.new ≡ length into.old }

@@ -141,8 +141,7 @@ impl<P: OpenProcess + Drop> Table<P> {
     /// Has a place for this wire.
     pub(crate) fn make_room(&mut self, wire: u32) -> Result<(), AllocError> {
         let places = wire as usize + 1;
-        self.slots
-            .reserve(places.saturating_sub(self.slots.len()))?;
+        self.slots.reserve(places.saturating_sub(self.slots.len()))?;
         for _ in self.slots.len()..places {
             self.slots.push(Slot {
                 socket: None,
@@ -253,7 +252,11 @@ impl<P: OpenProcess + Drop> Table<P> {
         self.socket(wire)?.peek_udp(into)
     }
 
-    pub(crate) fn recv_from(&mut self, wire: u32, into: &mut [u8]) -> Result<(Received, Option<Peer>), Fault>
+    pub(crate) fn recv_from(
+        &mut self,
+        wire: u32,
+        into: &mut [u8],
+    ) -> Result<(Received, Option<Peer>), Fault>
         ensures amount { IfOk result (λ r. IsArrived (length into.old) r.0) }
         ensures sender { IfOk result (λ r. IsFrom r.0 r.1) }
         ensures room { length into.new ≡ length into.old }
@@ -261,7 +264,11 @@ impl<P: OpenProcess + Drop> Table<P> {
         self.socket(wire)?.recv_from(into)
     }
 
-    pub(crate) fn peek_from(&mut self, wire: u32, into: &mut [u8]) -> Result<(Received, Option<Peer>), Fault>
+    pub(crate) fn peek_from(
+        &mut self,
+        wire: u32,
+        into: &mut [u8],
+    ) -> Result<(Received, Option<Peer>), Fault>
         ensures amount { IfOk result (λ r. IsArrived (length into.old) r.0) }
         ensures sender { IfOk result (λ r. IsFrom r.0 r.1) }
         ensures room { length into.new ≡ length into.old }
