@@ -159,8 +159,10 @@ impl<R: Processes> Edges<R> {
     /// Has places for what is kept of a wire.
     pub(crate) fn make_room(&mut self, wire: u32) -> Result<(), OutOfMemory>
         ensures same { seen_of self.new.counts ≡ seen_of self.old.counts }
-        ensures each_wire { (w : ℕ) → count_at self.new.counts.wires.items w ≡ count_at self.old.counts.wires.items w }
-        ensures each_dial { (w : ℕ) → count_at self.new.counts.dials.items w ≡ count_at self.old.counts.dials.items w }
+        ensures each_wire { (w : ℕ) → count_at self.new.counts.wires.items w
+            ≡ count_at self.old.counts.wires.items w }
+        ensures each_dial { (w : ℕ) → count_at self.new.counts.dials.items w
+            ≡ count_at self.old.counts.dials.items w }
     {
         self.table.make_room(wire).map_err(OutOfMemory::from)?;
         self.counts.make_room(wire)
