@@ -8,8 +8,6 @@
 #[cfg(test)]
 mod polled;
 #[cfg(test)]
-mod polled_timers;
-#[cfg(test)]
 mod reactor;
 #[cfg(test)]
 mod steps;
