@@ -4,6 +4,8 @@ use Rattle.std.proofs.lemmas.List.{append-nil}
 use Rattle.std.specs.Io.KnownBytes.{Consumes, IsAtEnd}
 use Rattle.react_core.specs.declared.outside.Event.{Event}
 use Rattle.bus_script.specs.Script.{Script, Refused, script}
+use Rattle.bus_script.specs.declared.reading.ScriptForm.{ScriptForm}
+use Rattle.bus_script.specs.declared.reading.ScriptForm.TheVariants as forms
 use Rattle.bus_session.specs.declared.ended.Ended.{Ended}
 use Rattle.bus_session.specs.declared.session.Session.{Session}
 use Rattle.bus_scene.specs.declared.from_script.Played.{Played}
@@ -28,27 +30,28 @@ below : (limit n : ℕ) → nat_lt limit n ≡ false → n ≤ limit
 below limit n test = grind (arith, test)
 
 -- A script is no longer than a script may be.
-is_short : (text : List ℕ) (s : Script) → script text ≡ Ok s → length text ≤ 16777216
+is_short : (form : ScriptForm) (text : List ℕ) (s : Script) → script form text ≡ Ok s → length text ≤ 16777216
 unfolding script
-is_short text s e = below 16777216 (length text) (accepted (nat_lt 16777216 (length text)) _ _ s e)
+is_short form text s e = below 16777216 (length text) (accepted (nat_lt 16777216 (length text)) _ _ s e)
 
 -- A script that was read.
-pub reads : (old new : Option (List ℕ)) (text : List ℕ) (s : Script) → Consumes old new text → (length text ≤ 16777216 → IsAtEnd new) → script text ≡ Ok s → Reads old new s
-reads old new text s taken whole is = record {
+pub reads : (form : ScriptForm) (old new : Option (List ℕ)) (text : List ℕ) (s : Script) → Consumes old new text →
+    (length text ≤ 16777216 → IsAtEnd new) → script form text ≡ Ok s → Reads form old new s
+reads form old new text s taken whole is = record {
   text = text;
   taken = taken;
-  end = whole (is_short text s is);
+  end = whole (is_short form text s is);
   is_script = is;
 }
 
 -- The whole of a run whose script was read.
 pub plays : (old new : Option (List ℕ)) (text : List ℕ) (p : Played) (endeds : List Ended) (events : List Event) →
-    Consumes old new text → (length text ≤ 16777216 → IsAtEnd new) → ((s : Script) × (script text ≡ Ok s) × IsOf s p)
+    Consumes old new text → (length text ≤ 16777216 → IsAtEnd new) → ((s : Script) × (script forms.Play text ≡ Ok s) × IsOf s p)
     →
     ComesTo p.scene.script p.sessions.items p.rounds endeds events → Plays old new endeds events
 plays old new text p endeds events taken whole from comes = record {
   read = from.0;
-  reads = reads old new text from.0 taken whole from.1;
+  reads = reads forms.Play old new text from.0 taken whole from.1;
   follow = follow_from from.0 p endeds events from.2 comes;
 }
 
@@ -86,9 +89,9 @@ err-not-ok : {X Y : Type 0} (r : X) (s : Y) → Err r ≡ Ok s → ⊥
 err-not-ok r s e = absurd (cc)
 
 -- What was read as a script is no text that is refused.
-pub not-refused : (bytes : List ℕ) (r : Refused) (old new : Option (List ℕ)) (text : List ℕ) (s : Script) →
-    Consumes old new text → (length text ≤ 16777216 → IsAtEnd new) → script text ≡ Ok s → old ≡ Some bytes →
-    script bytes ≡ Err r → ⊥
-not-refused bytes r old new text s taken whole is holds refused =
-    let same : text ≡ bytes = read-all bytes old new text holds taken (whole (is_short text s is)) in
-    err-not-ok r s (sym refused ∙ (ap script (sym same) ∙ is))
+pub not-refused : (form : ScriptForm) (bytes : List ℕ) (r : Refused) (old new : Option (List ℕ)) (text : List ℕ) (s : Script) →
+    Consumes old new text → (length text ≤ 16777216 → IsAtEnd new) → script form text ≡ Ok s → old ≡ Some bytes →
+    script form bytes ≡ Err r → ⊥
+not-refused form bytes r old new text s taken whole is holds refused =
+    let same : text ≡ bytes = read-all bytes old new text holds taken (whole (is_short form text s is)) in
+    err-not-ok r s (sym refused ∙ (ap (script form) (sym same) ∙ is))

@@ -1,3 +1,5 @@
 pub mod Cuts
 pub mod Following
-pub mod Opening
+pub mod OverScene
+pub mod OverReal
+pub mod Forms

@@ -29,11 +29,11 @@ command (name ∷ count ∷ []) = if name is codes "bulk" then option_map Bulk (
 command (name ∷ kind ∷ text ∷ []) = if name is codes "check" then option_map Check (kind_of kind) else None
 command _ = None
 
--- of the commands, `play` and `check` are built
+-- of the commands, all but `bulk` are built
 abbrev pub built : Option Command → Result Command Reason
 built (Some Play) = Ok Play
 built (Some (Check kind)) = Ok (Check kind)
-built (Some Open) = Err NotBuilt
+built (Some Open) = Ok Open
 built (Some (Bulk count)) = Err NotBuilt
 built None = Err Words
 
@@ -49,5 +49,5 @@ checked_text _ = []
 abbrev pub IsBuilt : Command → Type 0
 IsBuilt Play = Unit {0}
 IsBuilt (Check kind) = Unit {0}
-IsBuilt Open = ⊥
+IsBuilt Open = Unit {0}
 IsBuilt (Bulk count) = ⊥

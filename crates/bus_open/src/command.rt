@@ -55,15 +55,16 @@ fn kind_named(word: &str) -> Option<Kind>
     }
 }
 
-/// What the words ask for, or why they are refused. Of the commands, `play` and `check` are built.
+/// What the words ask for, or why they are refused. Of the commands, `bulk` is not built.
 pub fn asked(words: &[String]) -> Result<Command, Reason>
     ensures answer { result ≡ asked (map string_bytes words.now) }
     ensures built { IfOk result IsBuilt }
 {
     match Command::from_words(words) {
         Some(Command::Play) => Ok(Command::Play),
+        Some(Command::Open) => Ok(Command::Open),
         Some(Command::Check(kind)) => Ok(Command::Check(kind)),
-        Some(Command::Open | Command::Bulk(_)) => Err(Reason::NotBuilt),
+        Some(Command::Bulk(_)) => Err(Reason::NotBuilt),
         None => Err(Reason::Words),
     }
 }

@@ -1,11 +1,13 @@
-//! Plays a script of D-Bus openings and prints how each ended, or says what a text is.
+//! Opens D-Bus connections over sockets, plays a script of such openings, or says what a text is.
 //!
-//! [`program::run`] is the program over any source and sink; `main` hands it the standard streams.
+//! [`program::run`] is the program over any source, sink and outside; `main` hands it the real ones.
 #![tactic(auto)]
 
 mod checking;
 pub mod command;
+mod endings;
 pub mod memory;
+mod opening;
 mod playing;
 pub mod program;
 mod refusal;
@@ -16,7 +18,8 @@ pub mod stream;
 mod tests;
 pub mod whole;
 
-use bus_peers::{Scene, ScriptForm};
+use bus_edges::Edges;
+use react_core::outside::Fault;
 use standard::{StandardInput, StandardOutput};
 use std::process::ExitCode;
 use std::{env, io};
@@ -30,22 +33,18 @@ fn words(rt: &HostRuntime) -> Option<Vec<String>> {
     }
 }
 
-/// No command that is built uses the real outside, so an idle scene stands in its place.
+/// Where there is no poller, or no memory for the outside, the run ends before it begins.
 fn main(rt: HostRuntime) -> ExitCode {
     let alloc = rt.alloc();
     let Some(words) = words(&rt) else {
         return ExitCode::from(status::OUT_OF_MEMORY);
     };
-    let Ok(mut idle) = Scene::from_script(alloc, b"rounds 0", ScriptForm::Play) else {
-        return ExitCode::from(status::OUT_OF_MEMORY);
+    let mut real = match Edges::new(rt, alloc) {
+        Ok(edges) => edges,
+        Err(Fault::Failed) => return ExitCode::from(status::POLLER),
+        Err(Fault::OutOfMemory) => return ExitCode::from(status::OUT_OF_MEMORY),
     };
     let mut source = StandardInput::new(rt.stdin());
     let mut sink = StandardOutput::new(rt.stdout());
-    ExitCode::from(program::run(
-        alloc,
-        words.as_slice(),
-        &mut source,
-        &mut sink,
-        &mut idle.scene,
-    ))
+    ExitCode::from(program::run(alloc, words.as_slice(), &mut source, &mut sink, &mut real))
 }

@@ -14,36 +14,20 @@ ghost use Rattle.bus_printed.specs.Names.{Names};
 ghost use Rattle.bus_open.specs.Streams.{GainsFront, GainsOrFails, LosesFront};
 ghost use Rattle.bus_open.specs.Run.{ComesTo, Plays, Reads, PollerFails, ScriptFails, RefusesScript, RunsOut};
 ghost use Rattle.bus_open.specs.Run.{ScriptRunsOut};
-ghost use Rattle.bus_open.specs.Run.{all_open, is_open, status_of};
+ghost use Rattle.bus_open.specs.Run.{all_open};
+ghost use Rattle.bus_script.specs.declared.reading.ScriptForm.TheVariants as forms;
 
+use crate::endings::{LONGEST_SCRIPT, MOST_REPORTS, status_of, write_endings};
 use crate::refusal::refuse;
 use crate::status;
 use crate::stream::{Sink, Source};
-use crate::whole::{ReadError, read_all, write_all};
-use bus_peers::{Ended, Ending, OpenError, Played, Scene, ScriptError, ScriptForm, open_all};
+use crate::whole::{ReadError, read_all};
+use bus_peers::{Ended, Played, Scene, ScriptError, ScriptForm, open_all};
 use bus_printed::names_alone;
 use bus_script::printed;
 use react_core::outside::Event;
 use react_core::reactor::Reactor;
 use std::alloc::Global;
-
-/// A script has at most so many bytes.
-const LONGEST_SCRIPT: usize = 16_777_216;
-
-/// The reactor takes at most so many reports a wait.
-const MOST_REPORTS: usize = 64;
-
-fn is_open(ended: &Ended) -> bool
-    ensures { result ≡ is_open ended.now.ending }
-{
-    matches!(ended.ending, Ending::Open { .. })
-}
-
-fn all_open(endeds: &[Ended]) -> bool
-    ensures { result ≡ all_open endeds.now }
-{
-    endeds.iter().all(is_open)
-}
 
 /// Writes the endings and the events.
 fn report<K: Sink>(alloc: Global, sink: &mut K, endeds: &[Ended], events: &[Event]) -> u8
@@ -64,25 +48,7 @@ fn report<K: Sink>(alloc: Global, sink: &mut K, endeds: &[Ended], events: &[Even
     let Ok(text) = printed(alloc, endeds, events) else {
         return status::OUT_OF_MEMORY;
     };
-    if write_all(sink, text.as_str().as_bytes()).is_err() {
-        return status::WRITE_FAULT;
-    }
-    if all_open(endeds) {
-        status::ALL_WELL
-    } else {
-        status::NOT_ALL_WELL
-    }
-}
-
-/// The status of a refusal.
-fn status_of(refusal: OpenError) -> u8
-    ensures { result ≡ status_of refusal }
-{
-    match refusal {
-        OpenError::OutOfMemory => status::OUT_OF_MEMORY,
-        OpenError::Poller => status::POLLER,
-        OpenError::Exhausted { .. } => status::EXHAUSTED,
-    }
+    write_endings(sink, endeds, text.as_str())
 }
 
 /// Opens the sessions of a script over its scene, and writes how they ended.
@@ -147,13 +113,13 @@ pub(crate) fn play<S: Source, K: Sink>(alloc: Global, source: &mut S, sink: &mut
 
     // The script is refused; the line is written as far as the sink takes it.
     ensures refused { result ≡ 2 →
-        (refused : Refused) × RefusesScript (S.left source.old) (S.left source.new) refused
+        (refused : Refused) × RefusesScript forms.Play (S.left source.old) (S.left source.new) refused
         × GainsOrFails (K.held sink.old) (K.held sink.new) (K.write_faults sink.old) (K.write_faults sink.new)
         (refusal refused.line refused.reason) }
 
     // A script that the source holds, and that is none, is refused, where neither the source nor memory fails.
     ensures refused_script { (text : List ℕ) (refused : Refused) →
-        S.left source.old ≡ Some text → script text ≡ Err refused →
+        S.left source.old ≡ Some text → script forms.Play text ≡ Err refused →
         (result ≡ 2) ⊎ (result ≡ 3) ⊎ (result ≡ 5) }
 
     // The source failed, and nothing was written.
@@ -172,12 +138,12 @@ pub(crate) fn play<S: Source, K: Sink>(alloc: Global, source: &mut S, sink: &mut
 
     // A call of the poller failed, as an answer of the script has it, and nothing was written.
     ensures poller { result ≡ 6 →
-        (s : Script) × Reads (S.left source.old) (S.left source.new) s
+        (s : Script) × Reads forms.Play (S.left source.old) (S.left source.new) s
         × ScriptFails s × Keeps (K.held sink.old) (K.held sink.new) }
 
     // The numbers of the rounds ran out, and nothing was written.
     ensures exhausted { result ≡ 7 →
-        (s : Script) × Reads (S.left source.old) (S.left source.new) s
+        (s : Script) × Reads forms.Play (S.left source.old) (S.left source.new) s
         × ScriptRunsOut s × Keeps (K.held sink.old) (K.held sink.new) }
     ensures complete { ¬ Rose (S.read_faults source.old) (S.read_faults source.new) →
         ¬ Rose (K.write_faults sink.old) (K.write_faults sink.new) →

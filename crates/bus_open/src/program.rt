@@ -9,11 +9,15 @@ ghost use Rattle.bus_script.specs.Printed.{refusal};
 ghost use Rattle.bus_script.specs.declared.line.Reason.{Reason};
 ghost use Rattle.bus_open.specs.Streams.{GainsFront, GainsOrFails, LosesFront};
 ghost use Rattle.bus_open.specs.Commands.{asked};
-ghost use Rattle.bus_open.specs.Run.{Results, Reads, ScriptFails, ScriptRunsOut, IsRefused};
-ghost use Rattle.bus_open.specs.declared.command.Command.TheVariants.{Play};
+ghost use Rattle.bus_open.specs.Run.{Results, Reads, ScriptRunsOut, IsRefused, HasPollerFailed, KeepsOutside};
+ghost use Rattle.bus_open.specs.Run.{command_of};
+ghost use Rattle.bus_script.specs.declared.reading.ScriptForm.{ScriptForm};
+ghost use Rattle.bus_script.specs.declared.reading.ScriptForm.TheVariants as forms;
+ghost use Rattle.bus_open.specs.declared.command.Command.TheVariants.{Play, Open};
 
 use crate::checking::check_text;
 use crate::command::{Command, asked, checked_text};
+use crate::opening::open_script;
 use crate::playing::play;
 use crate::refusal::refuse;
 use crate::stream::{Sink, Source};
@@ -23,8 +27,9 @@ use std::alloc::Global;
 /// Runs the program on these words, and answers its status.
 ///
 /// `play` reads a script from the source, opens its sessions over the scene that the script makes, and writes the
-/// endings and the record of the events into the sink. `check` reads a text as one of its kind and writes what it is.
-/// The real outside is for commands that are not built yet.
+/// endings and the record of the events into the sink. `open` reads a script of sessions alone, opens them over the
+/// real outside, and writes the endings. `check` reads a text as one of its kind and writes what it is.
+#[tactic(auto, using(crate::proofs::OverReal::kept))]
 pub fn run<S: Source, K: Sink, O: Outside>(
     alloc: Global,
     words: &[String],
@@ -36,13 +41,13 @@ pub fn run<S: Source, K: Sink, O: Outside>(
 
     // All is well: every session of the script is open, or the text is one of its kind.
     ensures well { result ≡ 0 →
-        (text : List ℕ) × Results (map string_bytes words.now) (S.left source.old) (S.left source.new) true text
-        × Appends (K.held sink.old) (K.held sink.new) text }
+        (text : List ℕ) × Results (map string_bytes words.now) (S.left source.old) (S.left source.new)
+        (O.outer real.old) (O.outer real.new) true text × Appends (K.held sink.old) (K.held sink.new) text }
 
     // Some session ended otherwise, or the text is none of its kind.
     ensures other { result ≡ 1 →
-        (text : List ℕ) × Results (map string_bytes words.now) (S.left source.old) (S.left source.new) false text
-        × Appends (K.held sink.old) (K.held sink.new) text }
+        (text : List ℕ) × Results (map string_bytes words.now) (S.left source.old) (S.left source.new)
+        (O.outer real.old) (O.outer real.new) false text × Appends (K.held sink.old) (K.held sink.new) text }
 
     // The words or the script are refused; the line is written as far as the sink takes it.
     ensures refused { result ≡ 2 →
@@ -53,37 +58,38 @@ pub fn run<S: Source, K: Sink, O: Outside>(
         asked (map string_bytes words.now) ≡ Err reason → (result ≡ 2) ⊎ (result ≡ 5) }
 
     // A script that the source holds, and that is none, is refused, where neither the source nor memory fails.
-    ensures refused_script { (text : List ℕ) (refused : Refused) →
-        asked (map string_bytes words.now) ≡ Ok Play → S.left source.old ≡ Some text → script text ≡ Err refused →
+    ensures refused_script { (form : ScriptForm) (text : List ℕ) (refused : Refused) →
+        asked (map string_bytes words.now) ≡ Ok (command_of form) → S.left source.old ≡ Some text →
+        script form text ≡ Err refused →
         (result ≡ 2) ⊎ (result ≡ 3) ⊎ (result ≡ 5) }
 
     // The source failed, and nothing was written.
     ensures read_fault { result ≡ 3 →
-        (asked (map string_bytes words.now) ≡ Ok Play)
+        ((form : ScriptForm) × (asked (map string_bytes words.now) ≡ Ok (command_of form)))
         × Rose (S.read_faults source.old) (S.read_faults source.new)
         × LosesFront (S.left source.old) (S.left source.new) × Keeps (K.held sink.old) (K.held sink.new) }
 
     // The sink failed while the results were written, and gained a first part of them.
     ensures write_fault { result ≡ 4 →
         (well : Bool) × (text : List ℕ)
-        × Results (map string_bytes words.now) (S.left source.old) (S.left source.new) well text
-        × Rose (K.write_faults sink.old) (K.write_faults sink.new)
+        × Results (map string_bytes words.now) (S.left source.old) (S.left source.new) (O.outer real.old)
+        (O.outer real.new) well text × Rose (K.write_faults sink.old) (K.write_faults sink.new)
         × GainsFront (K.held sink.old) (K.held sink.new) text }
 
     // Memory ran out, and nothing was written.
     ensures memory { result ≡ 5 → Keeps (K.held sink.old) (K.held sink.new) }
 
-    // A call of the poller failed, as an answer of the script has it: the record follows from the script up to that
-    // call and the removals behind it. Nothing was written.
+    // A call of the poller failed: as an answer of the script has it, or a call of the real one, whose count rose. The
+    // record is the script's up to that call and the removals behind it. Nothing was written.
     ensures poller { result ≡ 6 →
-        (asked (map string_bytes words.now) ≡ Ok Play)
-        × ((s : Script) × Reads (S.left source.old) (S.left source.new) s
-        × ScriptFails s × Keeps (K.held sink.old) (K.held sink.new)) }
+        HasPollerFailed (map string_bytes words.now) (S.left source.old) (S.left source.new) (O.outer real.old)
+        (O.outer real.new) × Keeps (K.held sink.old) (K.held sink.new) }
 
-    // The numbers of the rounds ran out where one more was due, and nothing was written.
+    // The numbers of the rounds ran out where one more was due, as only a script that is played has it. Nothing was
+    // written.
     ensures exhausted { result ≡ 7 →
         (asked (map string_bytes words.now) ≡ Ok Play)
-        × ((s : Script) × Reads (S.left source.old) (S.left source.new) s
+        × ((s : Script) × Reads forms.Play (S.left source.old) (S.left source.new) s
         × ScriptRunsOut s × Keeps (K.held sink.old) (K.held sink.new)) }
 
     // A run without a fault of its streams ends with the results, a refusal, want of memory, or as its script makes the
@@ -93,14 +99,16 @@ pub fn run<S: Source, K: Sink, O: Outside>(
         (result ≡ 0) ⊎ (result ≡ 1) ⊎ (result ≡ 2) ⊎ (result ≡ 5) ⊎ (result ≡ 6) ⊎ (result ≡ 7) }
     ensures read_faults { result ≢ 3 → S.read_faults source.new ≡ S.read_faults source.old }
 
-    // No command that is built touches the real outside.
-    ensures real { real.new ≡ real.old }
+    // No other command touches the real outside, and `open` does only once it has a script.
+    ensures untouched { asked (map string_bytes words.now) ≢ Ok Open → real.new ≡ real.old }
+    ensures unopened { (result ≡ 2) ⊎ (result ≡ 3) → real.new ≡ real.old }
+    ensures keeps { KeepsOutside (O.outer real.old) (O.outer real.new) }
 {
-    let _ = real;
     match asked(words) {
         Ok(Command::Play) => play(alloc, source, sink),
+        Ok(Command::Open) => open_script(alloc, source, sink, real),
         Ok(Command::Check(kind)) => check_text(alloc, sink, kind, checked_text(words)),
-        Ok(Command::Open | Command::Bulk(_)) => unreachable!(),
+        Ok(Command::Bulk(_)) => unreachable!(),
         Err(reason) => refuse(alloc, sink, 0, reason),
     }
 }

@@ -2,5 +2,4 @@ pub mod DialLemmas
 pub mod FaultLemmas
 pub mod PlayLemmas
 pub mod QueueLemmas
-pub mod ReadingLemmas
 pub mod WaitLemmas

@@ -42,12 +42,12 @@ fn queued(
 }
 
 impl Scene {
-    /// Reads a script: the scene over its answers, its sessions, and its numbers.
+    /// Reads a script for a command: the scene over its answers, its sessions, and its numbers.
     ///
     /// A text that is no script is refused with its first bad line and the reason.
     pub fn from_script(alloc: Global, text: &[u8], form: ScriptForm) -> Result<Played, ScriptError>
-        ensures script { IfOk result (λ played. (s : Script) × (script text.now ≡ Ok s) × IsOf s played) }
-        ensures refused { IfErr result (λ e. FailsAt e (script text.now)) }
+        ensures script { IfOk result (λ played. (s : Script) × (script form text.now ≡ Ok s) × IsOf s played) }
+        ensures refused { IfErr result (λ e. FailsAt e (script form text.now)) }
         ensures built { IfOk result (λ played. list_all is_built played.sessions.items ≡ true) }
         ensures few { IfOk result (λ played. length played.sessions.items < 2 ^ 32) }
     {

@@ -4,4 +4,5 @@ pub mod Loops
 pub mod Lines
 pub mod Shape
 pub mod Laws
+pub mod Few
 pub mod Texts

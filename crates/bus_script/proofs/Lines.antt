@@ -11,6 +11,7 @@ use lib.Dec.{eqb}
 use Rattle.bus_script.specs.Words.{◌>>=◌}
 use Rattle.bus_script.specs.declared.line.Reason.TheVariants as reasons
 use Rattle.bus_script.specs.declared.reading.ScriptError.{ScriptError}
+use Rattle.bus_script.specs.declared.reading.ScriptForm.{ScriptForm}
 use Rattle.bus_script.specs.declared.reading.ScriptError.TheVariants as errors
 use Rattle.bus_script.specs.Script.{Script, Refused, empty, read_line, read_lines, at_line, whole, script, lines_in}
 use Rattle.bus_script.specs.Reading.{FailsAt, CutsLine}
@@ -37,31 +38,32 @@ cut_line bs (Some x) h =
       omega (arith, ap length parts.0, length-append x.0.now (10 ∷ x.1.now)),
     )
 
-pub step_ok : (n : ℕ) (s s' : Script) (line : List ℕ) (more all : List (List ℕ)) → all ≡ line ∷ more →
-    at_line n (read_line s line) ≡ Ok s' → read_lines n s all ≡ read_lines (n + 1) s' more
+pub step_ok : (form : ScriptForm) (n : ℕ) (s s' : Script) (line : List ℕ) (more all : List (List ℕ)) → all ≡ line ∷ more →
+    at_line n (read_line form s line) ≡ Ok s' → read_lines form n s all ≡ read_lines form (n + 1) s' more
 unfolding read_lines
-step_ok n s s' line more all cut step = rw (cut, step) refl
+step_ok form n s s' line more all cut step = rw (cut, step) refl
 
-pub last_ok : (n : ℕ) (s s' : Script) (line : List ℕ) (all : List (List ℕ)) → all ≡ line ∷ [] →
-    at_line n (read_line s line) ≡ Ok s' → read_lines n s all ≡ Ok s'
+pub last_ok : (form : ScriptForm) (n : ℕ) (s s' : Script) (line : List ℕ) (all : List (List ℕ)) → all ≡ line ∷ [] →
+    at_line n (read_line form s line) ≡ Ok s' → read_lines form n s all ≡ Ok s'
 unfolding read_lines
-last_ok n s s' line all cut step = rw (cut, step) refl
+last_ok form n s s' line all cut step = rw (cut, step) refl
 
-pub step_err : (n : ℕ) (s : Script) (line : List ℕ) (more all : List (List ℕ)) (e : ScriptError) → all ≡ line ∷ more →
-    FailsAt e (at_line n (read_line s line)) → FailsAt e (read_lines n s all)
+pub step_err : (form : ScriptForm) (n : ℕ) (s : Script) (line : List ℕ) (more all : List (List ℕ)) (e : ScriptError) →
+    all ≡ line ∷ more →
+    FailsAt e (at_line n (read_line form s line)) → FailsAt e (read_lines form n s all)
 unfolding read_lines
-step_err n s line more all errors.OutOfMemory cut step = tt
-step_err n s line more all (errors.Refused k reason) cut step = rw (cut, step) refl
+step_err form n s line more all errors.OutOfMemory cut step = tt
+step_err form n s line more all (errors.Refused k reason) cut step = rw (cut, step) refl
 
 pub fails_as : (e : ScriptError) (a b : Result Script Refused) → a ≡ b → FailsAt e a → FailsAt e b
 fails_as e a b h f = subst (λ (v : Result Script Refused). FailsAt e v) h f
 
-pub script_long : (text : List ℕ) → 16777216 < length text → script text ≡ Err (record {
+pub script_long : (form : ScriptForm) (text : List ℕ) → 16777216 < length text → script form text ≡ Err (record {
   line = 0;
   reason = reasons.Length;
 })
 unfolding script
-script_long text long = let test : nat_lt 16777216 (length text) ≡ true = grind arith in rw test refl
+script_long form text long = let test : nat_lt 16777216 (length text) ≡ true = grind arith in rw test refl
 
 short : (text : List ℕ) → length text ≤ 16777216 → nat_lt 16777216 (length text) ≡ false
 short text h = grind arith
@@ -70,23 +72,23 @@ not_text : (text : List ℕ) (b : Bool) → is_utf8 text ≡ b → ¬ (IsUtf8 te
 not_text text true e h = absurd (h (IsUtf8-from_is_utf8 text e))
 not_text text false e h = refl
 
-pub script_bad : (text : List ℕ) → length text ≤ 16777216 → ¬ (IsUtf8 text) → script text ≡ Err (record {
+pub script_bad : (form : ScriptForm) (text : List ℕ) → length text ≤ 16777216 → ¬ (IsUtf8 text) → script form text ≡ Err (record {
   line = 0;
   reason = reasons.Text;
 })
 unfolding script
-script_bad text fits bad = rw (short text fits, not_text text (is_utf8 text) refl bad) refl
+script_bad form text fits bad = rw (short text fits, not_text text (is_utf8 text) refl bad) refl
 
-script_text : (text : List ℕ) → length text ≤ 16777216 → IsUtf8 text →
-    script text ≡ (read_lines 1 empty (lines_in text) >>= whole)
+script_text : (form : ScriptForm) (text : List ℕ) → length text ≤ 16777216 → IsUtf8 text →
+    script form text ≡ (read_lines form 1 empty (lines_in text) >>= whole)
 unfolding script
-script_text text fits good = rw (short text fits, is_utf8-from_IsUtf8 text good) refl
+script_text form text fits good = rw (short text fits, is_utf8-from_IsUtf8 text good) refl
 
-pub script_ok : (text : List ℕ) (s : Script) → length text ≤ 16777216 → IsUtf8 text →
-    read_lines 1 empty (lines_in text) ≡ Ok s → script text ≡ whole s
-script_ok text s fits good read = script_text text fits good ∙ rw read refl
+pub script_ok : (form : ScriptForm) (text : List ℕ) (s : Script) → length text ≤ 16777216 → IsUtf8 text →
+    read_lines form 1 empty (lines_in text) ≡ Ok s → script form text ≡ whole s
+script_ok form text s fits good read = script_text form text fits good ∙ rw read refl
 
-pub script_err : (text : List ℕ) (e : ScriptError) → length text ≤ 16777216 → IsUtf8 text →
-    FailsAt e (read_lines 1 empty (lines_in text)) → FailsAt e (script text)
-script_err text errors.OutOfMemory fits good read = tt
-script_err text (errors.Refused k reason) fits good read = script_text text fits good ∙ rw read refl
+pub script_err : (form : ScriptForm) (text : List ℕ) (e : ScriptError) → length text ≤ 16777216 → IsUtf8 text →
+    FailsAt e (read_lines form 1 empty (lines_in text)) → FailsAt e (script form text)
+script_err form text errors.OutOfMemory fits good read = tt
+script_err form text (errors.Refused k reason) fits good read = script_text form text fits good ∙ rw read refl

@@ -6,8 +6,8 @@ use Rattle.std.specs.Option.{is_none, is_some}
 use Rattle.std.proofs.lemmas.List.{map-append, append-nil}
 use borrow.Author.Tests.{ltb-false}
 use Rattle.bus_script.specs.Words.{◌>>=◌, words_of}
-use Rattle.bus_script.specs.Forms.{line_of}
-use Rattle.bus_script.specs.Script.{Script, add, read_line, read_lines, at_line, is_skipped, built, names_sessions, has_more, later, latest, lines_in, whole, script, empty}
+use Rattle.bus_script.specs.declared.reading.ScriptForm.{ScriptForm}
+use Rattle.bus_script.specs.Script.{Script, add, read_line, read_lines, at_line, is_skipped, line_in, built, names_sessions, has_more, later, latest, lines_in, whole, script, empty}
 use Rattle.bus_script.specs.Reading.{GivesAt}
 use Rattle.bus_script.specs.declared.reading.ScriptError.{ScriptError}
 use Rattle.std.specs.Str.{is_utf8}
@@ -109,34 +109,34 @@ add_shape s s' (lines.Answer a) reached h =
       simp (map-append, append_assoc),
     )
 
-step : (s s' : Script) (text : List ℕ) (b : Bool) → is_skipped text ≡ b →
-    cond b (Ok s) ((line_of (words_of text) >>= built) >>= add s) ≡ Ok s' →
+step : (form : ScriptForm) (s s' : Script) (text : List ℕ) (b : Bool) → is_skipped text ≡ b →
+    cond b (Ok s) ((line_in form (words_of text) >>= built) >>= add s) ≡ Ok s' →
     ((is_skipped text ≡ true) × (s ≡ s')) ⊎ ((is_skipped text ≡ false)
-    × ((line : Line) × ((line_of (words_of text) >>= built) ≡ Ok line) × (add s line ≡ Ok s')))
-step s s' text true e h = inl (e, cc)
-step s s' text false e h = inr (e, bind_ok (line_of (words_of text) >>= built) (add s) s' h)
+    × ((line : Line) × ((line_in form (words_of text) >>= built) ≡ Ok line) × (add s line ≡ Ok s')))
+step form s s' text true e h = inl (e, cc)
+step form s s' text false e h = inr (e, bind_ok (line_in form (words_of text) >>= built) (add s) s' h)
 
-pub read_step : (s s' : Script) (text : List ℕ) → read_line s text ≡ Ok s' →
+pub read_step : (form : ScriptForm) (s s' : Script) (text : List ℕ) → read_line form s text ≡ Ok s' →
     ((is_skipped text ≡ true) × (s ≡ s')) ⊎ ((is_skipped text ≡ false)
-    × ((line : Line) × ((line_of (words_of text) >>= built) ≡ Ok line) × (add s line ≡ Ok s')))
+    × ((line : Line) × ((line_in form (words_of text) >>= built) ≡ Ok line) × (add s line ≡ Ok s')))
 unfolding read_line
-read_step s s' text h = step s s' text (is_skipped text) refl h
+read_step form s s' text h = step form s s' text (is_skipped text) refl h
 
-pub say_shape : (n : ℕ) (s s' : Script) (texts : List (List ℕ)) → Reached s → read_lines n s texts ≡ Ok s' →
-    (said : List Line) × Say texts said × (lines_of s' ≡ lines_of s ++ said)
+pub say_shape : (form : ScriptForm) (n : ℕ) (s s' : Script) (texts : List (List ℕ)) → Reached s →
+    read_lines form n s texts ≡ Ok s' → (said : List Line) × Say form texts said × (lines_of s' ≡ lines_of s ++ said)
 unfolding read_lines
-say_shape n s s' [] reached h = let same : s ≡ s' =
+say_shape form n s s' [] reached h = let same : s ≡ s' =
     cc in ([], refl, ap lines_of (sym same) ∙ sym (append-nil (lines_of s)))
-say_shape n s s' (text ∷ texts) reached h =
-    let b = bind_ok (at_line n (read_line s text)) (λ v. read_lines (n + 1) v texts) s' h in
-    elim (read_step s b.0 text (at_ok n (read_line s text) b.0 b.1)) [
+say_shape form n s s' (text ∷ texts) reached h =
+    let b = bind_ok (at_line n (read_line form s text)) (λ v. read_lines form (n + 1) v texts) s' h in
+    elim (read_step form s b.0 text (at_ok n (read_line form s text) b.0 b.1)) [
       | inl skipped ↦
-          let rest = say_shape (n + 1) s s' texts reached (rw skipped.1 b.2) in
+          let rest = say_shape form (n + 1) s s' texts reached (rw skipped.1 b.2) in
           (rest.0, inl (skipped.0, rest.1), rest.2)
       | inr taken ↦
           let line = taken.1.0 in
           let shape = add_shape s b.0 line reached taken.1.2 in
-          let rest = say_shape (n + 1) b.0 s' texts shape.0 b.2 in (
+          let rest = say_shape form (n + 1) b.0 s' texts shape.0 b.2 in (
             line ∷ rest.0,
             inr (taken.0, (line, rest.0, refl, taken.1.1, rest.1)),
             rest.2 ∙ ap (λ v. v ++ rest.0) shape.1
@@ -152,20 +152,22 @@ guarded : {A E : Type 0} (b c : Bool) (d e : E) (r : Result A E) (y : A) → con
 guarded b c d e r y h = (guard_more c e r y (guard_more b d (cond c (Err e) r) y h).1).1
 
 -- A script is what its lines say.
-pub script_lines : (text : List ℕ) (s : Script) → script text ≡ Ok s → read_lines 1 empty (lines_in text) ≡ Ok s
+pub script_lines : (form : ScriptForm) (text : List ℕ) (s : Script) → script form text ≡ Ok s →
+    read_lines form 1 empty (lines_in text) ≡ Ok s
 unfolding script
-script_lines text s h =
+script_lines form text s h =
     let r = guarded (nat_lt 16777216 (length text)) (not (is_utf8 text)) (record { line = 0; reason = Length })
-    (record { line = 0; reason = Text }) (read_lines 1 empty (lines_in text) >>= whole) s h in
-    let b = bind_ok (read_lines 1 empty (lines_in text)) whole s r in
+    (record { line = 0; reason = Text }) (read_lines form 1 empty (lines_in text) >>= whole) s h in
+    let b = bind_ok (read_lines form 1 empty (lines_in text)) whole s r in
     b.1 ∙ ap (λ v. Ok v) (whole_ok b.0 s b.2)
 
-pub script_says : (text : List ℕ) (s : Script) → script text ≡ Ok s → Say (lines_in text) (lines_of s)
-script_says text s h =
-    let shape = say_shape 1 empty s (lines_in text) (λ e. (refl, refl, refl)) (script_lines text s h) in
+pub script_says : (form : ScriptForm) (text : List ℕ) (s : Script) → script form text ≡ Ok s →
+    Say form (lines_in text) (lines_of s)
+script_says form text s h =
+    let shape = say_shape form 1 empty s (lines_in text) (λ e. (refl, refl, refl)) (script_lines form text s h) in
     rw shape.2 shape.1
 
-pub read_says : (text : List ℕ) (r : Result Script ScriptError) → GivesAt r (script text) →
-    IfOk r (λ s. Say (lines_in text) (lines_of s))
-read_says text (Ok s) h = script_says text s h
-read_says text (Err e) h = tt
+pub read_says : (form : ScriptForm) (text : List ℕ) (r : Result Script ScriptError) → GivesAt r (script form text) →
+    IfOk r (λ s. Say form (lines_in text) (lines_of s))
+read_says form text (Ok s) h = script_says form text s h
+read_says form text (Err e) h = tt

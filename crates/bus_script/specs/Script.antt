@@ -1,10 +1,12 @@
 -- The script that a text spells.
-use Rattle.std.specs.Prelude.{ℕ, ◌+◌, Bool, true, not, List, [], ◌∷◌, ◌++◌, length, fold, Option, Some, None, is_some}
+use Rattle.std.specs.Prelude.{ℕ, ◌+◌, Bool, true, false, not, List, [], ◌∷◌, ◌++◌, length, fold, Option, Some, None, is_some}
 use Rattle.std.specs.Prelude.{is_none, Result, Ok, Err, ◌||◌, nat_lt, nat_eq, if◌then◌else◌, codes, ◌==◌}
 use Rattle.std.specs.List.{list_all, starts_with}
 use Rattle.std.specs.Str.{is_utf8}
 use Rattle.bus_session.specs.declared.session.Session.{Session}
 use Rattle.bus_script.specs.Words.{◌>>=◌, parts_of, words_of}
+use Rattle.bus_script.specs.declared.reading.ScriptForm.{ScriptForm}
+use Rattle.bus_script.specs.declared.reading.ScriptForm.TheVariants as script_forms
 use Rattle.bus_script.specs.Forms.{line_of, is_built_line}
 use Rattle.bus_script.specs.declared.line.Reason.{Reason}
 use Rattle.bus_script.specs.declared.line.Reason.TheVariants as reasons
@@ -81,20 +83,35 @@ add s (lines.Answer a) =
 abbrev pub is_skipped : List ℕ → Bool
 is_skipped line = length line == 0 || starts_with nat_eq line (codes "#")
 
+-- the lines that a script of this command may have: for `open` the rounds and the sessions, since real things answer
+unfoldable pub is_allowed : ScriptForm → Line → Bool
+is_allowed script_forms.Play line = true
+is_allowed script_forms.Open (lines.Rounds n) = true
+is_allowed script_forms.Open (lines.Start tick timer) = false
+is_allowed script_forms.Open (lines.Session session) = true
+is_allowed script_forms.Open (lines.Answer answer) = false
+
+abbrev pub allowed : ScriptForm → Line → Result Line Reason
+allowed form line = if is_allowed form line then Ok line else Err reasons.Form
+
+-- the line that the words say in a script of this command, or a refusal
+abbrev pub line_in : ScriptForm → List (List ℕ) → Result Line Reason
+line_in form words = line_of words >>= allowed form
+
 abbrev pub built : Line → Result Line Reason
 built line = if is_built_line line then Ok line else Err reasons.NotBuilt
 
-unfoldable pub read_line : Script → List ℕ → Result Script Reason
-read_line s line = if is_skipped line then Ok s else ((line_of (words_of line) >>= built) >>= add s)
+unfoldable pub read_line : ScriptForm → Script → List ℕ → Result Script Reason
+read_line form s line = if is_skipped line then Ok s else ((line_in form (words_of line) >>= built) >>= add s)
 
 abbrev pub at_line : {X : Type 0} → ℕ → Result X Reason → Result X Refused
 at_line n (Ok x) = Ok x
 at_line n (Err reason) = Err (record { line = n; reason = reason })
 
 -- the script with these lines behind it; n is the number of the first of them
-unfoldable pub read_lines : ℕ → Script → List (List ℕ) → Result Script Refused
-read_lines n s [] = Ok s
-read_lines n s (line ∷ more) = at_line n (read_line s line) >>= λ s'. read_lines (n + 1) s' more
+unfoldable pub read_lines : ScriptForm → ℕ → Script → List (List ℕ) → Result Script Refused
+read_lines form n s [] = Ok s
+read_lines form n s (line ∷ more) = at_line n (read_line form s line) >>= λ s'. read_lines form (n + 1) s' more
 
 -- a script has its rounds
 abbrev pub whole : Script → Result Script Refused
@@ -105,8 +122,9 @@ whole s = if is_none s.rounds then Err (record { line = 0; reason = reasons.Orde
 abbrev pub lines_in : List ℕ → List (List ℕ)
 lines_in text = parts_of 10 text
 
-unfoldable pub script : List ℕ → Result Script Refused
-script text =
+-- what the text is as a script of this command
+unfoldable pub script : ScriptForm → List ℕ → Result Script Refused
+script form text =
     if nat_lt 16777216 (length text) then Err (record { line = 0; reason = reasons.Length })
     else if not (is_utf8 text) then Err (record { line = 0; reason = reasons.Text })
-    else (read_lines 1 empty (lines_in text) >>= whole)
+    else (read_lines form 1 empty (lines_in text) >>= whole)

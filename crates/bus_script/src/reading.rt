@@ -1,13 +1,14 @@
 //! A whole script.
 
-ghost use Rattle.std.specs.Prelude.{◌≡◌, ◌≤◌, List, length, IfOk, Some, Ok};
+ghost use Rattle.std.specs.Prelude.{◌≡◌, ◌≤◌, ◌<◌, ◌^◌, List, length, IfOk, Some, Ok};
 ghost use Rattle.std.specs.List.{list_all};
 ghost use Rattle.bus_script.specs.Forms.{is_built_line};
 ghost use Rattle.bus_script.specs.Reading.{Steps, StepsAt, GivesAt, CutsLine};
 ghost use Rattle.bus_script.specs.Shape.{Say, lines_of};
-ghost use Rattle.bus_script.specs.Laws.{HasBuiltSessions, NamesItsSessions, IsForward};
+ghost use Rattle.bus_script.specs.Laws.{HasBuiltSessions, HasForm, NamesItsSessions, IsForward};
 ghost use Rattle.bus_script.specs.Script.{Script, start_of, latest, later, add, is_there, names_sessions, has_more};
 ghost use Rattle.bus_script.specs.Script.{empty, read_line, at_line, read_lines, whole, script, lines_in, is_skipped};
+ghost use Rattle.bus_script.specs.Script.{is_allowed};
 
 use crate::forms::line_of;
 use crate::line::{Answer, Line, LineError, Ready, ReadySource, Reason, ScriptWait, Start};
@@ -20,7 +21,10 @@ use thiserror::Error;
 /// The command whose script is read.
 #[derive(Clone, Copy, Debug, PartialEq, Eq)]
 pub enum ScriptForm {
+    /// `play`: each line may stand in it.
     Play,
+    /// `open`: the rounds and the sessions alone, since real things answer.
+    Open,
 }
 
 /// Why a text is no script. Line 0 is the whole text, and lines count from 1.
@@ -239,24 +243,33 @@ impl Draft {
     }
 
     #[tactic(auto, unfolding(crate::specs::Script::read_line))]
-    fn read_line(&mut self, alloc: Global, line: &str) -> Result<(), LineError>
-        ensures { Steps result self.new (read_line self.old line.now) }
+    fn read_line(&mut self, alloc: Global, form: ScriptForm, line: &str) -> Result<(), LineError>
+        ensures { Steps result self.new (read_line form self.old line.now) }
     {
         if is_skipped(line) {
             return Ok(());
         }
         let words = words(alloc, line)?;
         let said = line_of(alloc, words.as_slice())?;
+        if !is_allowed(form, &said) {
+            return Err(LineError::Refused(Reason::Form));
+        }
         if !is_built_line(&said) {
             return Err(LineError::Refused(Reason::NotBuilt));
         }
         self.add(said)
     }
 
-    fn read_at(&mut self, alloc: Global, number: u64, line: &str) -> Result<(), ScriptError>
-        ensures { StepsAt result self.new (at_line number (read_line self.old line.now)) }
+    fn read_at(
+        &mut self,
+        alloc: Global,
+        form: ScriptForm,
+        number: u64,
+        line: &str,
+    ) -> Result<(), ScriptError>
+        ensures { StepsAt result self.new (at_line number (read_line form self.old line.now)) }
     {
-        match self.read_line(alloc, line) {
+        match self.read_line(alloc, form, line) {
             Ok(()) => Ok(()),
             Err(LineError::Refused(reason)) => Err(ScriptError::Refused {
                 line: number,
@@ -291,6 +304,17 @@ fn is_skipped(line: &str) -> bool
     line.is_empty() || line.starts_with("#")
 }
 
+/// Whether a script of this command may have the line.
+#[tactic(auto, unfolding(crate::specs::Script::is_allowed))]
+fn is_allowed(form: ScriptForm, line: &Line) -> bool
+    ensures { result ≡ is_allowed form line.now }
+{
+    match form {
+        ScriptForm::Play => true,
+        ScriptForm::Open => matches!(line, Line::Rounds(_) | Line::Session(_)),
+    }
+}
+
 /// Whether the line has a form that is built.
 #[tactic(auto, unfolding(crate::specs::Forms::is_built_line))]
 fn is_built_line(line: &Line) -> bool
@@ -310,25 +334,25 @@ fn first_line(text: &str) -> Option<(&str, &str)>
     text.split_once('\n')
 }
 
-fn read_lines(alloc: Global, text: &str) -> Result<Draft, ScriptError>
+fn read_lines(alloc: Global, form: ScriptForm, text: &str) -> Result<Draft, ScriptError>
     requires { length text.now ≤ 16777216 }
-    ensures { GivesAt result (read_lines 1 empty (lines_in text.now)) }
+    ensures { GivesAt result (read_lines form 1 empty (lines_in text.now)) }
 {
     let mut draft = Draft::new(alloc);
     let mut number = 1u64;
     let mut rest = text;
     while let Some((line, more)) = first_line(rest) {
-        draft.read_at(alloc, number, line)?;
+        draft.read_at(alloc, form, number, line)?;
         number += 1;
         rest = more;
     }
-    draft.read_at(alloc, number, rest)?;
+    draft.read_at(alloc, form, number, rest)?;
     Ok(draft)
 }
 
 #[tactic(auto, using(crate::proofs::Lines::script_long, crate::proofs::Lines::script_bad, crate::proofs::Lines::script_ok, crate::proofs::Lines::script_err))]
-fn read_exact(alloc: Global, bytes: &[u8]) -> Result<Script, ScriptError>
-    ensures { GivesAt result (script bytes.now) }
+fn read_exact(alloc: Global, form: ScriptForm, bytes: &[u8]) -> Result<Script, ScriptError>
+    ensures { GivesAt result (script form bytes.now) }
 {
     if bytes.len() > 16_777_216 {
         return Err(ScriptError::Refused {
@@ -337,7 +361,7 @@ fn read_exact(alloc: Global, bytes: &[u8]) -> Result<Script, ScriptError>
         });
     }
     match std::str::from_utf8(bytes) {
-        Ok(text) => match read_lines(alloc, text) {
+        Ok(text) => match read_lines(alloc, form, text) {
             Ok(draft) => draft.finish(),
             Err(e) => Err(e),
         },
@@ -348,19 +372,22 @@ fn read_exact(alloc: Global, bytes: &[u8]) -> Result<Script, ScriptError>
     }
 }
 
-/// Reads the script that the bytes spell.
+/// Reads the script that the bytes spell, for a command that reads one.
 ///
 /// A text that spells none is refused with the number of its first bad line and the reason.
-#[tactic(auto, using(crate::proofs::Shape::read_says, crate::proofs::Laws::sessions_built, crate::proofs::Laws::sessions_named, crate::proofs::Laws::is_forward))]
-pub fn read(alloc: Global, text: &[u8], _form: ScriptForm) -> Result<Script, ScriptError>
-    ensures exact { GivesAt result (script text.now) }
+#[tactic(auto, using(crate::proofs::Shape::read_says, crate::proofs::Laws::sessions_built, crate::proofs::Laws::has_form, crate::proofs::Laws::sessions_named, crate::proofs::Laws::is_forward, crate::proofs::Few::sessions_few))]
+pub fn read(alloc: Global, text: &[u8], form: ScriptForm) -> Result<Script, ScriptError>
+    ensures exact { GivesAt result (script form text.now) }
     // Its lines say the rounds, then the start, then the sessions, then the answers, and nothing else.
-    ensures in_order { IfOk result (λ s. Say (lines_in text.now) (lines_of s)) }
+    ensures in_order { IfOk result (λ s. Say form (lines_in text.now) (lines_of s)) }
+    // For `open` it has neither a start nor answers.
+    ensures form { IfOk result (HasForm form) }
     ensures built_sessions { IfOk result HasBuiltSessions }
+    ensures few { IfOk result (λ s. length s.sessions < 2 ^ 32) }
     // Each answer that names a session names one that is there.
     ensures named { IfOk result NamesItsSessions }
     // The clock never falls.
     ensures forward { IfOk result (λ s. IsForward 0 s.answers) }
 {
-    read_exact(alloc, text)
+    read_exact(alloc, form, text)
 }

@@ -6,7 +6,7 @@ use bus_peers::{Scene, ScriptForm};
 use std::alloc::Global;
 use std::test::Fail;
 
-fn texts(alloc: Global, list: &[&str]) -> Result<Vec<String>, Fail> {
+pub(crate) fn texts(alloc: Global, list: &[&str]) -> Result<Vec<String>, Fail> {
     let mut words = Vec::new(alloc);
     for word in list {
         words.push(String::from_str(alloc, word)?)?;
@@ -14,7 +14,7 @@ fn texts(alloc: Global, list: &[&str]) -> Result<Vec<String>, Fail> {
     Ok(words)
 }
 
-/// The outside that no command uses.
+/// An outside that none of these commands uses.
 fn unused(alloc: Global) -> Result<Scene, Fail> {
     Ok(Scene::from_script(alloc, b"rounds 0", ScriptForm::Play)?.scene)
 }
@@ -39,11 +39,12 @@ const CLIENT: &str = "client EXTERNAL 1000 - n - unix:path=/run/a\n";
 
 #[test]
 fn words_and_scripts_are_refused_with_their_line_and_reason(rt: HostRuntime) -> Result<(), Fail> {
-    let words: [(&[&str], &str); 16] = [
+    let words: [(&[&str], &str); 17] = [
         (&[], "refused 0 words\n"),
         (&["play", "x"], "refused 0 words\n"),
         (&["playing"], "refused 0 words\n"),
-        (&["open"], "refused 0 not-built\n"),
+        (&["open", "x"], "refused 0 words\n"),
+        (&["Open"], "refused 0 words\n"),
         (&["bulk", "6"], "refused 0 not-built\n"),
         (&["bulk", "0"], "refused 0 not-built\n"),
         (&["bulk", "10000"], "refused 0 not-built\n"),

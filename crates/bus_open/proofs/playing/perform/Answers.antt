@@ -1,7 +1,7 @@
 use Rattle.std.proofs.Common.{ap, sym, ◌∙◌}
 use Rattle.react_core.specs.Core.{ReactorState}
 use Rattle.bus_open.proofs.Cuts.{keeps_same}
-use Rattle.bus_open.proofs.Opening.{comes, follows-answers, exhausted-alone, fails, one-of, poller-alone, runs-out}
+use Rattle.bus_open.proofs.OverScene.{comes, follows-answers, exhausted-alone, fails, one-of, poller-alone, runs-out}
 use Rattle.bus_open.proofs.playing.perform.Goals as goal
 
 pub returns-in-Ok-opened-clause-opened : goal.returns-in-Ok-opened-clause-opened

@@ -7,7 +7,7 @@ use Rattle.bus_script.proofs.reading.read_lines.Given as goal
 -- says that each `&str` the loop changes is text: keep it, and add clauses with ×
 abbrev pub invariant-loop-line : goal.invariant-loop-line
 invariant-loop-line l = shadow (Utf8 l.rest)
-    × (read_lines l.number l.draft (lines_in l.rest) ≡ read_lines 1 empty (lines_in l.text))
+    × (read_lines l.form l.number l.draft (lines_in l.rest) ≡ read_lines l.form 1 empty (lines_in l.text))
     × (l.number + length l.rest ≤ 1 + length l.text)
 
 abbrev pub decreases-loop-line : goal.decreases-loop-line

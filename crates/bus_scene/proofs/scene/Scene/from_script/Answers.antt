@@ -1,6 +1,5 @@
 use Rattle.std.proofs.lemmas.List.Sums.{list_all-from_AllPass}
 use Rattle.bus_session.specs.Sessions.{is_built}
-use Rattle.bus_scene.proofs.ReadingLemmas.{sessions_few}
 use Rattle.bus_scene.proofs.scene.Scene.from_script.Goals as goal
 
 pub returns-clause-built : goal.returns-clause-built
@@ -11,4 +10,4 @@ returns-clause-built c =
 pub returns-clause-few : goal.returns-clause-few
 returns-clause-few c =
     rw c.into_parts-parts.ensures.sessions
-    (sessions_few c.args.text.now c.in_ok-read.field-0 c.in_ok-read.ensures.exact c.in_ok-read.ensures.in_order)
+    c.in_ok-read.ensures.few
