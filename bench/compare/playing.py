@@ -4,10 +4,22 @@ import dialling
 
 MOST_READ = 1024
 MOST_REPORTS = 64
+LAST_NUMBER = (1 << 64) - 1
 
 
 class PollerFailed(Exception):
     pass
+
+
+class Exhausted(Exception):
+    pass
+
+
+def next_number(number):
+    """The number behind one of a round or of a timer."""
+    if number == LAST_NUMBER:
+        raise Exhausted
+    return number + 1
 
 
 def directions(flags):
@@ -22,13 +34,20 @@ class Session:
         self.key = None
         # how each direction stands: idle, waits, or reported since it began to wait
         self.sides = {"r": "idle", "w": "idle"}
+        # the reading of the clock in its last visit, and whether it was once found to be below the deadline
+        self.moment = None
+        self.has_timer = False
 
     def waits(self):
         return directions([flag for flag, side in self.sides.items() if side == "waits"])
 
+    def is_late(self, reading):
+        return self.session.deadline is not None and reading >= self.session.deadline
+
     def line(self, wire):
         written, left = (self.conversation.written, self.conversation.left) if self.conversation else (b"", b"")
-        return f"session {wire} {self.ending} {dialling.printed(written)} {dialling.printed(left)} -"
+        moment = "-" if self.moment is None else self.moment
+        return f"session {wire} {self.ending} {dialling.printed(written)} {dialling.printed(left)} {moment}"
 
 
 class Player:
@@ -39,11 +58,20 @@ class Player:
         self.free = []
         self.keys = 0
         self.holders = {}
+        self.tick = script.tick
+        self.timer = script.timer
+        self.reading = 0
 
-    def poll(self, call, wire, key, named=""):
+    def now(self):
+        if self.script.readings:
+            self.reading = self.script.readings.pop(0)
+        self.events.append(f"now {self.reading}")
+        return self.reading
+
+    def poll(self, call, *named):
         answers = self.script.poller[call]
         ok = answers.pop(0) if answers else True
-        self.events.append(f"{call} {wire} {key}{named} {'ok' if ok else 'fault'}")
+        self.events.append(" ".join([call, *map(str, named), "ok" if ok else "fault"]))
         if not ok:
             raise PollerFailed
 
@@ -84,9 +112,12 @@ class Player:
         self.visit(wire)
 
     def visit(self, wire):
+        """Asks the wire until it ends or isn't ready; only then the clock is looked at."""
+        session = self.sessions[wire]
+        session.moment = None
         goes_on = True
         while goes_on:
-            what, value = self.sessions[wire].conversation.asks()
+            what, value = session.conversation.asks()
             if what == "send":
                 goes_on = self.send(wire, value)
             elif what == "recv":
@@ -94,6 +125,18 @@ class Player:
             else:
                 self.end(wire, value)
                 goes_on = False
+        if session.key is not None and session.session.deadline is not None:
+            self.look_at_clock(wire)
+
+    def look_at_clock(self, wire):
+        session = self.sessions[wire]
+        session.moment = self.now()
+        if session.is_late(session.moment):
+            self.end(wire, "timed-out")
+        elif not session.has_timer:
+            self.timer = next_number(self.timer)
+            self.poll("notify")
+            session.has_timer = True
 
     def send(self, wire, offered):
         """One send; whether the visit goes on."""
@@ -133,7 +176,7 @@ class Player:
             return True
         if session.sides[flag] == "idle":
             session.sides[flag] = "waits"
-            self.poll("modify", wire, session.key, f" {session.waits()}")
+            self.poll("modify", wire, session.key, session.waits())
         return False
 
     def reported(self, answer):
@@ -142,19 +185,25 @@ class Player:
         named = [(number if key else self.sessions[number].key, "r" * read + "w" * write) for key, number, read, write in answer]
         return [report for report in named if report[0] is not None][:MOST_REPORTS]
 
+    def timeout(self, reading):
+        """How long the nearest deadline of a sleeper is away; none where no sleeper has one."""
+        deadlines = [self.sessions[wire].session.deadline for wire in self.holders.values()]
+        return min((max(deadline - reading, 0) for deadline in deadlines if deadline is not None), default=None)
+
     def round(self):
-        self.events.append("now 0")
+        self.tick = next_number(self.tick)
+        reading = self.now()
+        timeout = self.timeout(reading)
         answer = self.script.waits.pop(0) if self.script.waits else []
         if answer == "fault":
             raise PollerFailed
         reports = self.reported(answer)
-        if answer == "interrupted":
-            self.events.append("wait - interrupted")
-        else:
-            self.events.append("wait - reports" + "".join(f" {key}{flags}" for key, flags in reports))
-            if not reports:
-                self.events.append("now 0")
-        for wire in sorted(self.rearmed(reports)):
+        gave = "interrupted" if answer == "interrupted" else "reports" + "".join(f" {key}{flags}" for key, flags in reports)
+        self.events.append(f"wait {'-' if timeout is None else timeout} {gave}")
+        if gave == "reports" and timeout != 0:
+            reading = self.now()
+        late = {wire for wire in self.holders.values() if self.sessions[wire].is_late(reading)}
+        for wire in sorted(late | self.rearmed(reports)):
             self.visit(wire)
 
     def rearmed(self, reports):
@@ -170,7 +219,7 @@ class Player:
                     session.sides[flag] = "reported"
                     due.add(wire)
             if session.waits():
-                self.poll("modify", wire, key, f" {session.waits()}")
+                self.poll("modify", wire, key, session.waits())
         return due
 
     def play(self):
@@ -194,3 +243,5 @@ def play(script):
         return Player(script).play()
     except PollerFailed:
         return 6, ""
+    except Exhausted:
+        return 7, ""

@@ -14,9 +14,9 @@ FORMS = [
     ("rounds", rf"rounds (?P<u64>{NUMBER})"),
     ("start", rf"start (?P<u64_tick>{NUMBER}) (?P<u64_timer>{NUMBER})"),
     ("client", rf"client (?P<mech>-|EXTERNAL|ANONYMOUS) (?P<u32>{NUMBER}) (?P<hello>-|{BYTES}) (?P<flatpak>[yn])"
-               rf" (?P<deadline>-|(?P<u64>{NUMBER})) (?P<address>.*)"),
+               rf" (?:-|(?P<u64>{NUMBER})) (?P<address>.*)"),
     ("server", rf"server (?P<guid>[0-9a-fA-F]{{32}}) (?P<mech>EXTERNAL|ANONYMOUS) (?:-|(?P<u32>{NUMBER}))"
-               rf" (?P<deadline>-|(?P<u64>{NUMBER}))"),
+               rf" (?:-|(?P<u64>{NUMBER}))"),
     ("dial open", rf"dial (?P<u32>{NUMBER}) open (?P<flag>[yn])"),
     ("dial peers", rf"dial (?P<u32>{NUMBER}) peers(?P<peers>(?: {PEER})*)"),
     ("dial nonce", rf"dial (?P<u32>{NUMBER}) nonce (?P<bytes>{BYTES})"),
@@ -30,14 +30,12 @@ FORMS = [
     ("send again", rf"send (?P<u32>{NUMBER}) again"),
     ("send fault", rf"send (?P<u32>{NUMBER}) fault"),
     ("now", rf"now (?P<u64>{NUMBER})"),
-    ("poller", r"(?P<call>add|modify|delete) (?P<answer>ok|fault)"),
-    ("notify", r"notify (?:ok|fault)"),
+    ("poller", r"(?P<call>add|modify|delete|notify) (?P<answer>ok|fault)"),
     ("wait reports", rf"wait reports(?P<reports>(?: {READY})*)"),
     ("wait interrupted", r"wait interrupted"),
     ("wait fault", r"wait fault"),
 ]
 COMPILED = [(kind, re.compile(form, re.DOTALL)) for kind, form in FORMS]
-NOT_BUILT = {"start", "now", "notify"}
 
 
 class Refused(Exception):
@@ -53,6 +51,7 @@ class Client:
     user: int
     hello: bytes
     flatpak: bool
+    deadline: int | None
     address: str
 
 
@@ -61,17 +60,22 @@ class Server:
     guid: str
     mechanism: str
     permitted: int | None
+    deadline: int | None
 
 
 @dataclasses.dataclass
 class Script:
     rounds: int = 0
+    # the numbers of the last round and of the last timer before it
+    tick: int = 0
+    timer: int = 0
     sessions: list = dataclasses.field(default_factory=list)
     # the answers to each session's dialling (what kind each is, and what it carries), reads and sends
     dials: dict = dataclasses.field(default_factory=dict)
     reads: dict = dataclasses.field(default_factory=dict)
     sends: dict = dataclasses.field(default_factory=dict)
-    poller: dict = dataclasses.field(default_factory=lambda: {"add": [], "modify": [], "delete": []})
+    readings: list = dataclasses.field(default_factory=list)
+    poller: dict = dataclasses.field(default_factory=lambda: {"add": [], "modify": [], "delete": [], "notify": []})
     waits: list = dataclasses.field(default_factory=list)
 
 
@@ -101,10 +105,6 @@ def form_of(line):
     return None
 
 
-def is_built(kind, groups):
-    return groups["deadline"] == "-" if kind in ("client", "server") else kind not in NOT_BUILT
-
-
 def place_of(kind):
     return {"rounds": 0, "start": 1, "client": 2, "server": 2}.get(kind, 3)
 
@@ -117,6 +117,11 @@ def in_order(kind, last):
     return place > last or (place == last and place >= 2)
 
 
+def is_built(kind, groups):
+    """Whether the program takes such a line: it takes no session with a deadline yet."""
+    return kind not in ("client", "server") or groups["u64"] is None
+
+
 def names_of(kind, groups):
     """The sessions that an answer names."""
     if kind.split()[0] in ("dial", "recv", "send"):
@@ -124,8 +129,18 @@ def names_of(kind, groups):
     return [number for key, number, _, _ in reports_of(groups.get("reports") or "") if not key]
 
 
+def falls(script, kind, groups):
+    """Whether the clock would fall by this line."""
+    return kind == "now" and script.readings != [] and int(groups["u64"]) < script.readings[-1]
+
+
 def bytes_of(text):
     return b"" if text in "-." else bytes.fromhex(text)
+
+
+def number_of(text):
+    """The number that a group holds, or None where it was not there."""
+    return None if text is None else int(text)
 
 
 def dial_answer(kind, groups):
@@ -141,15 +156,21 @@ def dial_answer(kind, groups):
     return ("fault",)
 
 
+def session_of(kind, groups):
+    deadline = number_of(groups["u64"])
+    if kind == "server":
+        return Server(groups["guid"].lower(), groups["mech"], number_of(groups["u32"]), deadline)
+    hello = bytes_of(groups["hello"])
+    return Client(groups["mech"], int(groups["u32"]), hello, groups["flatpak"] == "y", deadline, groups["address"])
+
+
 def add(script, kind, groups):
     if kind == "rounds":
         script.rounds = int(groups["u64"])
-    elif kind == "client":
-        hello = bytes_of(groups["hello"])
-        script.sessions.append(Client(groups["mech"], int(groups["u32"]), hello, groups["flatpak"] == "y", groups["address"]))
-    elif kind == "server":
-        permitted = None if groups["u32"] is None else int(groups["u32"])
-        script.sessions.append(Server(groups["guid"].lower(), groups["mech"], permitted))
+    elif kind == "start":
+        script.tick, script.timer = int(groups["u64_tick"]), int(groups["u64_timer"])
+    elif kind in ("client", "server"):
+        script.sessions.append(session_of(kind, groups))
     elif kind.startswith("dial"):
         script.dials.setdefault(int(groups["u32"]), []).append(dial_answer(kind, groups))
     elif kind.startswith("send"):
@@ -158,6 +179,8 @@ def add(script, kind, groups):
     elif kind.startswith("recv"):
         answer = bytes.fromhex(groups["bytes"]) if kind == "recv bytes" else kind.split()[1]
         script.reads.setdefault(int(groups["u32"]), []).append(answer)
+    elif kind == "now":
+        script.readings.append(int(groups["u64"]))
     elif kind == "poller":
         script.poller[groups["call"]].append(groups["answer"] == "ok")
     elif kind == "wait reports":
@@ -187,6 +210,8 @@ def read(data):
             raise Refused(number, "order")
         if any(name >= len(script.sessions) for name in names_of(*found)):
             raise Refused(number, "session")
+        if falls(script, *found):
+            raise Refused(number, "clock")
         last = place_of(found[0])
         add(script, *found)
     if last is None:

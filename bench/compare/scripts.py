@@ -1,6 +1,7 @@
-"""Random scripts: right ones, with every kind of line that is built, and ones that are spoilt in a line or two."""
+"""Random scripts: right ones, with every kind of line, and ones that are spoilt in a line or two."""
 
 import addresses
+import moments
 import reading
 
 GUID = addresses.GUID
@@ -8,6 +9,9 @@ OK = f"OK {GUID}\r\n".encode()
 
 # lines that are put in anywhere: of other forms, at wrong places, out of range, or of no form
 OTHERS = """rounds 3|rounds 03|rounds 18446744073709551615|rounds 18446744073709551616|rounds 1 | rounds 1|rounds 1\r|\r|start 1 2|start 1
+start 0 18446744073709551615|start 18446744073709551616 0|start 00 0|now 18446744073709551615|now 18446744073709551616|now|now -|notify fault|notify
+client EXTERNAL 1000 - n 18446744073709551616 unix:path=/a|client EXTERNAL 1000 - n 050 unix:path=/a|client EXTERNAL 1000 - n 50
+server 1234deadbeef1234deadbeef12345678 ANONYMOUS - 18446744073709551615|server 1234deadbeef1234deadbeef12345678 ANONYMOUS - 5 |notify ok ok
 server 1234deadbeef1234deadbeef12345678 EXTERNAL 1000 -|client ANONYMOUS 1000 - n - unix:path=/run/a|client EXTERNAL 1000 - n -
 server 1234deadbeef1234deadbeef12345678 EXTERNAL 1000 5|server 1234deadbeef1234deadbeef1234567 EXTERNAL 1000 -|server - EXTERNAL - -
 client EXTERNAL 1000 - n - |client EXTERNAL 1000 - y - unix:path=/a|client EXTERNAL 1000 . n - unix:path=/a|client EXTERNAL 1000 - n 5 unix:path=/a
@@ -65,81 +69,106 @@ def peer_says(rng, server):
     return said + bytes(rng.randrange(256) for _ in range(rng.choice([0, 0, 0, 1, 3, 2000])))
 
 
-def reads(rng, server):
-    """The answers to the reads of one session."""
-    said = peer_says(rng, server)
+def parts(rng, said):
+    """What a peer says, cut anywhere, into lines, or not at all."""
     steps = [1, 5, 30] if len(said) < 300 else [100, 1023, 1024, 1025]
-    step = rng.choice([len(said) + 1, len(said) + 1, *steps])
+    cut = rng.choice(["whole", "lines", "steps"])
+    if cut == "lines":
+        return said.splitlines(keepends=True)
+    step = rng.choice(steps) if cut == "steps" else len(said) + 1
+    return [said[start:start + step] for start in range(0, len(said), step)]
+
+
+def reads(rng, server, slow):
+    """The answers to the reads of one session; the slower the peer, the more often nothing is there yet."""
     answers = []
-    for start in range(0, len(said), step):
-        answers += ["again"] * (rng.random() < 0.15)
-        part = said[start:start + step].hex()
-        answers.append("bytes " + (part.upper() if rng.random() < 0.1 else part))
+    for part in parts(rng, peer_says(rng, server)):
+        answers += ["again"] * (rng.choice([1, 1, 2]) if rng.random() < slow else 0)
+        answers.append("bytes " + (part.hex().upper() if rng.random() < 0.1 else part.hex()))
     answers += ["again"] * rng.choice([0, 0, 1, 2])
     return answers + rng.choice([[], [], ["end"], ["fault"]])
 
 
-def sends(rng):
-    """The answers to the sends of one session."""
-    if rng.random() < 0.5:
+def sends(rng, slow):
+    """The answers to the sends of one session; of the slowest peers none is taken at once."""
+    kind = rng.random()
+    if kind < 0.4 and slow < 1:
         return []
+    if kind < 0.6:
+        return (["took 4000"] * rng.choice([0, 1]) + ["again", "took 4000"] * 4)[:rng.choice([3, 6, 9])]
     answers = []
     for _ in range(rng.choice([1, 2, 4, 8])):
-        answers.append(rng.choice(["again", "again", f"took {rng.choice([1, 1, 3, 10, 50])}", "took 4000", "took 0", "fault"] + ["took 7"] * 6))
+        if rng.random() < slow / 2:
+            answers += ["again"] * rng.choice([1, 1, 2])
+        answers.append(rng.choice([f"took {rng.choice([1, 1, 3, 10, 50])}", "took 7"] + ["took 4000"] * 4))
+    if rng.random() < 0.25:
+        answers.insert(rng.randrange(len(answers) + 1), rng.choice(["fault", "took 0"]))
     return answers
 
 
-def wait(rng, sessions, faults):
+def wait(rng, sessions, faults, mood):
+    """The answer of a wait: quiet ones report little, lively ones mostly all sessions."""
     kind = rng.random()
     if kind < 0.1:
         return "wait interrupted"
-    if kind < 0.12 and faults:
+    if kind < 0.16 and faults:
         return "wait fault"
+    if mood == "lively" and kind < 0.8:
+        return " ".join(["wait reports"] + [f"{number}rw" for number in range(sessions)])
     words = []
-    for _ in range(rng.choice([0, 1, 1, 1, 2, 3, 5, 70])):
+    for _ in range(rng.choice([0, 0, 0, 0, 0, 0, 1, 2] if mood == "quiet" else [0, 1, 1, 1, 2, 3, 5, 70])):
         named = str(rng.randrange(sessions)) if sessions and rng.random() < 0.8 else f"k{rng.choice([0, 1, 2, 3, 9])}"
         words.append(named + rng.choice(["r", "r", "w", "w", "rw"]))
     return " ".join(["wait reports"] + words)
 
 
-def session(rng):
+def session(rng, deadlines):
     """A session's line, and the session."""
+    deadline = rng.choice(deadlines)
     if rng.random() < 0.35:
         permitted = rng.choice([None, 1000, 1000, 7])
-        server = reading.Server(GUID, rng.choice(["EXTERNAL", "EXTERNAL", "ANONYMOUS"]), permitted)
-        return f"server {GUID} {server.mechanism} {'-' if permitted is None else permitted} -", server
+        server = reading.Server(GUID, rng.choice(["EXTERNAL", "EXTERNAL", "ANONYMOUS"]), permitted, None)
+        return f"server {GUID} {server.mechanism} {'-' if permitted is None else permitted} {deadline}", server
     parts = [rng.choice(["-", "-", "EXTERNAL", "ANONYMOUS"]), str(rng.choice([0, 7, 1000, 4294967295])),
-             rng.choice(["-", "-", ".", "6c01"]), rng.choice("yn"), "-", addresses.clients_address(rng)]
-    return f"client {' '.join(parts)}", reading.Client(parts[0], int(parts[1]), b"", parts[3] == "y", parts[5])
+             rng.choice(["-", "-", ".", "6c01"]), rng.choice("yn"), deadline,
+             "unix:path=/run/a" if rng.random() < 0.3 else addresses.clients_address(rng)]
+    return f"client {' '.join(parts)}", reading.Client(parts[0], int(parts[1]), b"", parts[3] == "y", None, parts[5])
 
 
-def queues(rng, sessions):
+def queues(rng, sessions, readings):
     """The lines of each queue of answers, in order."""
     faults = rng.random() < 0.15
+    slow, mood = rng.choice([0.15, 0.15, 0.5, 0.5, 0.9, 1]), rng.choice(["quiet", "quiet", "lively", "lively", "mixed"])
     found = []
     for number, one in enumerate(sessions):
         if rng.random() < 0.95:
             found.append([f"dial {number} {answer}" for answer in addresses.answers(rng, one)])
         if rng.random() < 0.9:
             server = isinstance(one, reading.Server)
-            found.append([f"recv {number} {answer}" for answer in reads(rng, server)])
-        found.append([f"send {number} {answer}" for answer in sends(rng)])
-    for call in ("add", "modify", "delete"):
+            found.append([f"recv {number} {answer}" for answer in reads(rng, server, slow)])
+        found.append([f"send {number} {answer}" for answer in sends(rng, slow)])
+    for call in ("add", "modify", "delete", "notify"):
         answers = ["fault" if faults and rng.random() < 0.4 else "ok" for _ in range(rng.choice([0, 0, 1, 3]))]
         found.append([f"{call} {answer}" for answer in answers])
-    found.append([wait(rng, len(sessions), faults) for _ in range(rng.randrange(12))])
+    found.append([f"now {moment}" for moment in readings])
+    found.append([wait(rng, len(sessions), faults, mood) for _ in range(rng.randrange(12))])
     return [queue for queue in found if queue]
 
 
 def right(rng):
     """The lines of a script."""
     lines = [f"rounds {rng.choice([0, 1, 2, 3, 5, 8, 12])}"]
+    if rng.random() < 0.12:
+        lines.append(moments.start(rng))
+    count = rng.choice([0, 1, 1, 2, 2, 3, 4, 6])
+    readings = moments.readings(rng, count)
+    deadlines = moments.deadlines(rng, readings) if rng.random() < 0.7 else ["-"]
     sessions = []
-    for _ in range(rng.choice([0, 1, 1, 2, 2, 3, 4, 6])):
-        line, one = session(rng)
+    for _ in range(count):
+        line, one = session(rng, deadlines)
         lines.append(line)
         sessions.append(one)
-    left = queues(rng, sessions)
+    left = queues(rng, sessions, readings)
     while left:
         queue = rng.choice(left)
         lines.append(queue.pop(0))
