@@ -117,11 +117,6 @@ def in_order(kind, last):
     return place > last or (place == last and place >= 2)
 
 
-def is_built(kind, groups):
-    """Whether the program takes such a line: it takes no session with a deadline yet."""
-    return kind not in ("client", "server") or groups["u64"] is None
-
-
 def names_of(kind, groups):
     """The sessions that an answer names."""
     if kind.split()[0] in ("dial", "recv", "send"):
@@ -204,8 +199,6 @@ def read(data):
         found = form_of(line)
         if found is None:
             raise Refused(number, "form")
-        if not is_built(*found):
-            raise Refused(number, "not-built")
         if not in_order(found[0], last):
             raise Refused(number, "order")
         if any(name >= len(script.sessions) for name in names_of(*found)):

@@ -3,7 +3,7 @@ use Rattle.std.proofs.Common.{◌≡◌, ℕ, ◌≤◌, Bool, true, false, List
 use Rattle.std.proofs.lemmas.List.{append-nil}
 use Rattle.std.specs.Io.KnownBytes.{Consumes, IsAtEnd}
 use Rattle.react_core.specs.declared.outside.Event.{Event}
-use Rattle.bus_script.specs.Script.{Script, Refused, script}
+use Rattle.bus_script.specs.Script.{start_of, Script, Refused, script}
 use Rattle.bus_script.specs.declared.reading.ScriptForm.{ScriptForm}
 use Rattle.bus_script.specs.declared.reading.ScriptForm.TheVariants as forms
 use Rattle.bus_session.specs.declared.ended.Ended.{Ended}
@@ -65,14 +65,16 @@ poller-fails s p starts fails = record {
       (subst (λ (sessions : List Session). PollerFails p.scene.script sessions p.rounds) starts.sessions fails);
 }
 
-pub runs-out : (s : Script) (p : Played) → IsOf s p → RunsOut p.scene.script p.sessions.items p.tick p.rounds →
+pub runs-out : (s : Script) (p : Played) → IsOf s p → RunsOut p.scene.script p.sessions.items p.tick p.timer p.rounds →
     ScriptRunsOut s
 runs-out s p starts out = record {
   rounds = p.rounds;
   given = sym starts.rounds;
-  out = subst (λ (tick : ℕ). RunsOut (queues (length s.sessions) s.answers) s.sessions tick p.rounds) starts.tick
-      (subst (λ (q : Queues). RunsOut q s.sessions p.tick p.rounds) starts.script
-      (subst (λ (sessions : List Session). RunsOut p.scene.script sessions p.tick p.rounds) starts.sessions out));
+  out = subst (λ (timer : ℕ). RunsOut (queues (length s.sessions) s.answers) s.sessions (start_of s.start).tick timer p.rounds)
+      starts.timer
+      (subst (λ (tick : ℕ). RunsOut (queues (length s.sessions) s.answers) s.sessions tick p.timer p.rounds) starts.tick
+      (subst (λ (q : Queues). RunsOut q s.sessions p.tick p.timer p.rounds) starts.script
+      (subst (λ (sessions : List Session). RunsOut p.scene.script sessions p.tick p.timer p.rounds) starts.sessions out)));
 }
 
 -- Bytes that were read to their end are those that there were.

@@ -8,8 +8,6 @@ use Rattle.react_core.specs.Core.{Core}
 use Rattle.react_core.specs.Outer.{Outer, All, Keeps, keeps-same}
 use Rattle.std.specs.List.{list_all}
 use Rattle.std.proofs.lemmas.List.Sums.{list_all-from_AllPass}
-use Rattle.bus_session.specs.Sessions.{is_built}
-use Rattle.bus_script.specs.Laws.{HasBuiltSessions}
 use Rattle.react_core.specs.Told.{Rose, told}
 use Rattle.bus_script.specs.Script.{Script, script}
 use Rattle.bus_script.specs.declared.reading.ScriptForm.TheVariants as forms
@@ -19,7 +17,10 @@ use Rattle.bus_session.specs.declared.session.Session.{Session}
 use Rattle.bus_printed.specs.Names.{Names}
 use Rattle.bus_record.specs.Failing.{PollerFailed}
 use Rattle.bus_peers.specs.Faults.{EndedsCounted}
-use Rattle.bus_peers.specs.Headline.{Opened, Exhausts, RefusedWith}
+use Rattle.bus_peers.specs.Headline.{Opened, RefusedWith}
+use Rattle.bus_peers.specs.Exhausted.{NoneLeft}
+use Rattle.react_core.specs.declared.reactor.Counter.{Counter}
+use Rattle.react_core.specs.declared.reactor.Counter.TheVariants as counter
 use Rattle.bus_peers.specs.declared.open.OpenError.{OpenError}
 use Rattle.bus_peers.specs.declared.open.OpenError.TheVariants as open_err
 use Rattle.bus_open.specs.Run.{Opens, OpensTo, OpeningFails, OpeningScriptFails, KeepsOutside, most_reports, status_of}
@@ -32,13 +33,17 @@ no_events endeds = append-nil (session_lines endeds)
 pub named_alone : (endeds : List Ended) → Names (printed endeds []) endeds [] → Names (session_lines endeds) endeds []
 named_alone endeds named = subst (λ (text : List ℕ). Names text endeds []) (no_events endeds) named
 
--- The numbers of the rounds do not run out where they begin at 0.
-never_exhausted : (sessions : List Session) (rounds : ℕ) (old : Core) (r : List Event) (ample : Bool) →
-    Exhausts sessions rounds ample old r → old.ticker ≡ 0 → rounds < 2 ^ 64 → ⊥
-never_exhausted sessions rounds old r ample out begins fits =
+-- The numbers of the rounds and of the timers do not run out where they begin at 0.
+never_exhausted : (c : Counter) (sessions : List Session) (rounds : ℕ) (old : Core) (r : List Event) (ample : Bool) →
+    NoneLeft c sessions rounds ample old r → old.ticker ≡ 0 → old.made ≡ 0 → rounds < 2 ^ 64 →
+    length sessions < 2 ^ 32 → ⊥
+never_exhausted counter.Round sessions rounds old r ample out begins made fits few =
     let last = out.last in
     let left = out.left in
     absurd (omega (arith, last, left, begins, fits))
+never_exhausted counter.Timer sessions rounds old r ample out begins made fits few =
+    let needed = out.needed in
+    absurd (omega (arith, needed, made, few))
 
 -- these two are among the statuses of opening
 pub among : (n : ℕ) → (n ≡ 5) ⊎ (n ≡ 6) → (n ≡ 0) ⊎ (n ≡ 1) ⊎ (n ≡ 4) ⊎ (n ≡ 5) ⊎ (n ≡ 6)
@@ -46,10 +51,6 @@ among n (inl five) = inr (inr (inr (inl five)))
 among n (inr six) = inr (inr (inr (inr six)))
 
 -- the sessions of a script that is taken apart
-pub built_parts : (s : Script) (sessions : List Session) → HasBuiltSessions s → sessions ≡ s.sessions →
-    list_all is_built sessions ≡ true
-built_parts s sessions built same = rw same (list_all-from_AllPass is_built s.sessions built)
-
 pub few_parts : (s : Script) (sessions : List Session) → length s.sessions < 2 ^ 32 → sessions ≡ s.sessions →
     length sessions < 2 ^ 32
 few_parts s sessions few same = rw same few
@@ -105,12 +106,12 @@ module _ {Origin : Type 0} where
     Refuses e = (r : List Event) × (after.events ≡ told before.events r) × Unit {0}
         × RefusedWith {T = List Ended} sessions rounds before.ample old new (Err e) r
 
-    pub two_of : (e : OpenError) → Refuses e → old.ticker ≡ 0 → rounds < 2 ^ 64 →
-        (status_of e ≡ 5) ⊎ (status_of e ≡ 6)
-    two_of open_err.OutOfMemory refused begins fits = inl refl
-    two_of open_err.Poller refused begins fits = inr refl
-    two_of (open_err.Exhausted c value) refused begins fits =
-        absurd (never_exhausted sessions rounds old refused.0 before.ample refused.3.3 begins fits)
+    pub two_of : (e : OpenError) → Refuses e → old.ticker ≡ 0 → old.made ≡ 0 → rounds < 2 ^ 64 →
+        length sessions < 2 ^ 32 → (status_of e ≡ 5) ⊎ (status_of e ≡ 6)
+    two_of open_err.OutOfMemory refused begins made fits few = inl refl
+    two_of open_err.Poller refused begins made fits few = inr refl
+    two_of (open_err.Exhausted c value) refused begins made fits few =
+        absurd (never_exhausted c sessions rounds old refused.0 before.ample refused.3.2 begins made fits few)
 
     pub opening_fails : (e : OpenError) → Refuses e → e ≡ open_err.Poller →
         Rose before.poller_faults after.poller_faults → OpeningFails before after sessions rounds

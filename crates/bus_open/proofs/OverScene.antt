@@ -1,5 +1,5 @@
 -- What the answer of `open_all` over a new scene says of a script.
-use Rattle.std.proofs.Common.{◌≡◌, ℕ, false, ◌<◌, ◌⊎◌, inl, inr, Some, List, [], ◌++◌, refl, sym, ◌∙◌, ap, subst, arith}
+use Rattle.std.proofs.Common.{◌≡◌, ℕ, false, ◌<◌, ◌^◌, ◌-◌, ◌+◌, ◌⊎◌, inl, inr, Some, List, [], length, ◌++◌, refl, sym, ◌∙◌, ap, subst, arith}
 use Rattle.std.proofs.lemmas.Option.{same_Some}
 use Rattle.react_core.specs.declared.outside.Event.{Event}
 use Rattle.react_core.specs.Core.{Core}
@@ -18,7 +18,9 @@ use Rattle.react_core.specs.declared.outside.Rooms.{Rooms}
 use Rattle.react_core.specs.declared.outside.Rooms.TheVariants as rooms
 use Rattle.bus_record.specs.Failing.{PollerFailed}
 use Rattle.bus_record.specs.Headline.{Headline}
-use Rattle.bus_peers.specs.Headline.{Opened, Exhausts}
+use Rattle.bus_peers.specs.Headline.{Opened}
+use Rattle.bus_peers.specs.Exhausted.{NoRoundLeft, NoTimerLeft, NoneLeft}
+use Rattle.react_core.specs.declared.reactor.Counter.TheVariants as counter
 use Rattle.bus_script.specs.Printed.{printed}
 use Rattle.bus_printed.specs.Names.{Names}
 use Rattle.bus_open.specs.Run.{most_reports, FollowsAnswers, ComesTo, PollerFails, RunsOut, status_of}
@@ -82,20 +84,30 @@ exhausted-alone open_err.Poller seven = absurd (cc)
 exhausted-alone (open_err.Exhausted c value) seven = (c, value, refl)
 
 -- where the numbers ran out
-pub runs-out : (answers : Queues) (sessions : List Session) (rounds tick : ℕ) (old : Core)
+which-ran : (c : Counter) (sessions : List Session) (rounds tick timer : ℕ) (old : Core) (r : List Event) →
+    old.ticker ≡ tick → old.made ≡ timer → NoneLeft c sessions rounds false old r →
+    (NoRoundLeft sessions rounds false old r × (2 ^ 64 - 1 < tick + rounds))
+    ⊎ (NoTimerLeft sessions rounds false old r × (2 ^ 64 - 1 < timer + length sessions))
+which-ran counter.Round sessions rounds tick timer old r begins made out =
+    let last = out.last in let left = out.left in inl (out, omega (arith, last, left, begins))
+which-ran counter.Timer sessions rounds tick timer old r begins made out =
+    let needed = out.needed in inr (out, omega (arith, needed, made))
+
+pub runs-out : (c : Counter) (answers : Queues) (sessions : List Session) (rounds tick timer : ℕ) (old : Core)
     (start told shown : List Event) → start ≡ [] → shown ≡ told → FollowsAnswers answers shown → old.ticker ≡ tick →
-    (r : List Event) × (Some told ≡ with_told (Some start) r) × Exhausts sessions rounds false old r →
-    RunsOut answers sessions tick rounds
-runs-out answers sessions rounds tick old start told shown none are follows begins out =
-    let last = out.2.last in
-    let left = out.2.left in
+    old.made ≡ timer →
+    (r : List Event) × (Some told ≡ with_told (Some start) r) × NoneLeft c sessions rounds false old r →
+    RunsOut answers sessions tick timer rounds
+runs-out c answers sessions rounds tick timer old start told shown none are follows begins made out =
+    let same = sym (shown-so start told shown out.0 none are out.1) in
     record {
       events = shown;
       follows = follows;
       start = old;
       begins = begins;
-      exhausts = subst (Exhausts sessions rounds false old) (sym (shown-so start told shown out.0 none are out.1)) out.2;
-      beyond = omega (arith, last, left, begins);
+      made = made;
+      exhausts = which-ran c sessions rounds tick timer old shown begins made
+          (subst (NoneLeft c sessions rounds false old) same out.2);
     }
 
 pub one-of : (e : OpenError) → (status_of e ≡ 0) ⊎ (status_of e ≡ 1) ⊎ (status_of e ≡ 4) ⊎ (status_of e ≡ 5) ⊎ (status_of e ≡ 6) ⊎ (status_of e ≡ 7)

@@ -21,7 +21,7 @@ use Rattle.bus_session.specs.declared.session.Session.{Session}
 use Rattle.bus_record.specs.Pieces.{Pieces}
 use Rattle.bus_record.specs.Headline.{Headline}
 use Rattle.bus_record.specs.Failing.{PollerFailed}
-use Rattle.bus_peers.specs.Headline.{Exhausts}
+use Rattle.bus_peers.specs.Exhausted.{NoRoundLeft, NoTimerLeft}
 use Rattle.bus_peers.specs.Faults.{EndedsCounted}
 use Rattle.react_core.specs.Core.{Core}
 use Rattle.bus_script.specs.Printed.{printed, session_lines}
@@ -171,21 +171,23 @@ HasPollerFailed words old new before after =
 abbrev pub KeepsOutside : {Origin : Type 0} → Outer Origin → Outer Origin → Type 0
 KeepsOutside before after = outside_keeps (All most_reports) before after
 
--- The numbers of the rounds run out, the last of which is 2 ^ 64 - 1: a session slept and a round was left, but the
--- next one had no number. The record up to there follows from the answers.
-pub record RunsOut (answers : Queues) (sessions : List Session) (tick rounds : ℕ) : Type 0 where
+-- The numbers of the rounds or of the timers run out, the last of which is 2 ^ 64 - 1: the next round that was left, or
+-- the timer of a session that had to sleep, had no number. The record up to there follows from the answers.
+pub record RunsOut (answers : Queues) (sessions : List Session) (tick timer rounds : ℕ) : Type 0 where
   pub events : List Event
   pub follows : FollowsAnswers answers events
   pub start : Core
   pub begins : start.ticker ≡ tick
-  pub exhausts : Exhausts sessions rounds false start events
-  pub beyond : 2 ^ 64 - 1 < tick + rounds
+  pub made : start.made ≡ timer
+  pub exhausts : (NoRoundLeft sessions rounds false start events × (2 ^ 64 - 1 < tick + rounds))
+      ⊎ (NoTimerLeft sessions rounds false start events × (2 ^ 64 - 1 < timer + length sessions))
 
--- the same of a script, whose rounds are begun behind its tick
+-- the same of a script, whose rounds are begun behind its tick, and whose timers are made behind its timer
 pub record ScriptRunsOut (s : Script) : Type 0 where
   pub rounds : ℕ
   pub given : s.rounds ≡ Some rounds
-  pub out : RunsOut (queues (length s.sessions) s.answers) s.sessions (start_of s.start).tick rounds
+  pub out : RunsOut (queues (length s.sessions) s.answers) s.sessions (start_of s.start).tick (start_of s.start).timer
+      rounds
 
 -- the status of a refusal of `open_all`
 abbrev pub status_of : OpenError → ℕ

@@ -8,7 +8,6 @@ ghost use Rattle.bus_script.specs.Script.{Refused, script};
 ghost use Rattle.bus_script.specs.Printed.{session_lines, refusal};
 ghost use Rattle.bus_script.specs.declared.reading.ScriptForm.TheVariants as forms;
 ghost use Rattle.bus_session.specs.declared.ended.Ended.{Ended};
-ghost use Rattle.bus_session.specs.Sessions.{is_built};
 ghost use Rattle.bus_printed.specs.Names.{Names};
 ghost use Rattle.bus_open.specs.Streams.{GainsFront, GainsOrFails, LosesFront};
 ghost use Rattle.bus_open.specs.Run.{all_open, Opens, OpensTo, OpeningFails, OpeningScriptFails, RefusesScript};
@@ -57,7 +56,6 @@ fn perform<K: Sink, O: Outside>(
     rounds: u64,
 ) -> u8
     requires few { length sessions.items < 2 ^ 32 }
-    requires built { list_all is_built sessions.items ≡ true }
     ensures status { (result ≡ 0) ⊎ (result ≡ 1) ⊎ (result ≡ 4) ⊎ (result ≡ 5) ⊎ (result ≡ 6) }
     ensures opened { result ≡ 0 →
         (endeds : List Ended) × OpensTo (O.outer real.old) (O.outer real.new) sessions.items rounds endeds
@@ -87,7 +85,7 @@ fn perform<K: Sink, O: Outside>(
 }
 
 /// Reads a script of sessions alone, opens them over the real outside, and writes how they ended.
-#[tactic(auto, using(crate::proofs::OverReal::kept, crate::proofs::OverReal::built_parts, crate::proofs::OverReal::few_parts))]
+#[tactic(auto, using(crate::proofs::OverReal::kept, crate::proofs::OverReal::few_parts))]
 pub(crate) fn open_script<S: Source, K: Sink, O: Outside>(
     alloc: Global,
     source: &mut S,

@@ -9,7 +9,6 @@ ghost use Rattle.react_core.specs.declared.outside.Rooms.TheVariants as rooms;
 ghost use Rattle.bus_script.specs.Script.{Script, Refused, script};
 ghost use Rattle.bus_script.specs.Printed.{printed, refusal};
 ghost use Rattle.bus_session.specs.declared.ended.Ended.{Ended};
-ghost use Rattle.bus_session.specs.Sessions.{is_built};
 ghost use Rattle.bus_printed.specs.Names.{Names};
 ghost use Rattle.bus_open.specs.Streams.{GainsFront, GainsOrFails, LosesFront};
 ghost use Rattle.bus_open.specs.Run.{ComesTo, Plays, Reads, PollerFails, ScriptFails, RefusesScript, RunsOut};
@@ -56,7 +55,6 @@ fn perform<K: Sink>(alloc: Global, sink: &mut K, played: Played) -> u8
     requires new { played.scene.told ≡ [] }
     requires unwaited { played.scene.rooms ≡ rooms.Unwaited }
     requires few { length played.sessions.items < 2 ^ 32 }
-    requires built { list_all is_built played.sessions.items ≡ true }
     ensures status { (result ≡ 0) ⊎ (result ≡ 1) ⊎ (result ≡ 4) ⊎ (result ≡ 5) ⊎ (result ≡ 6) ⊎ (result ≡ 7) }
     ensures opened { result ≡ 0 →
         (endeds : List Ended) × (r : List Event)
@@ -76,7 +74,7 @@ fn perform<K: Sink>(alloc: Global, sink: &mut K, played: Played) -> u8
         PollerFails played.scene.script played.sessions.items played.rounds
         × Keeps (K.held sink.old) (K.held sink.new) }
     ensures exhausted { result ≡ 7 →
-        RunsOut played.scene.script played.sessions.items played.tick played.rounds
+        RunsOut played.scene.script played.sessions.items played.tick played.timer played.rounds
         × Keeps (K.held sink.old) (K.held sink.new) }
 {
     let Played {
@@ -141,7 +139,7 @@ pub(crate) fn play<S: Source, K: Sink>(alloc: Global, source: &mut S, sink: &mut
         (s : Script) × Reads forms.Play (S.left source.old) (S.left source.new) s
         × ScriptFails s × Keeps (K.held sink.old) (K.held sink.new) }
 
-    // The numbers of the rounds ran out, and nothing was written.
+    // The numbers of the rounds or of the timers ran out, and nothing was written.
     ensures exhausted { result ≡ 7 →
         (s : Script) × Reads forms.Play (S.left source.old) (S.left source.new) s
         × ScriptRunsOut s × Keeps (K.held sink.old) (K.held sink.new) }

@@ -85,15 +85,15 @@ pub fn run<S: Source, K: Sink, O: Outside>(
         HasPollerFailed (map string_bytes words.now) (S.left source.old) (S.left source.new) (O.outer real.old)
         (O.outer real.new) × Keeps (K.held sink.old) (K.held sink.new) }
 
-    // The numbers of the rounds ran out where one more was due, as only a script that is played has it. Nothing was
-    // written.
+    // The numbers of the rounds or of the timers ran out where one more was due, as only a script that is played has it.
+    // Nothing was written.
     ensures exhausted { result ≡ 7 →
         (asked (map string_bytes words.now) ≡ Ok Play)
         × ((s : Script) × Reads forms.Play (S.left source.old) (S.left source.new) s
         × ScriptRunsOut s × Keeps (K.held sink.old) (K.held sink.new)) }
 
     // A run without a fault of its streams ends with the results, a refusal, want of memory, or as its script makes the
-    // poller or the rounds' numbers fail.
+    // poller or the numbers of rounds or timers fail.
     ensures complete { ¬ Rose (S.read_faults source.old) (S.read_faults source.new) →
         ¬ Rose (K.write_faults sink.old) (K.write_faults sink.new) →
         (result ≡ 0) ⊎ (result ≡ 1) ⊎ (result ≡ 2) ⊎ (result ≡ 5) ⊎ (result ≡ 6) ⊎ (result ≡ 7) }

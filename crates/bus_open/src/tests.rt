@@ -1,6 +1,8 @@
 //! What no clause says: that calls succeed, the texts of whole runs, and what comes of streams that fail.
 
+mod deadlines;
 mod dialling;
+mod hostile;
 mod opening;
 mod program;
 mod streams;

@@ -11,7 +11,6 @@ use Rattle.react_core.specs.Core.{Core}
 use Rattle.react_core.specs.Told.{told, told-told, told-nothing}
 use Rattle.bus_session.specs.declared.session.Session.{Session}
 use Rattle.bus_session.specs.Parts.{part}
-use Rattle.bus_session.specs.Sessions.{is_built}
 use Rattle.bus_record.specs.Pieces as pieces
 use Rattle.bus_record.specs.Pieces.{Pieces, nothing, ◌▸◌, visit, rounds_in, armings_in, is_modify}
 use Rattle.bus_record.specs.Settled.{numbered, start, visited}
@@ -24,13 +23,15 @@ use Rattle.bus_visit.specs.Counts.{after_begun}
 use Rattle.bus_visit.specs.Registry.{Held}
 use Rattle.bus_peers.specs.inside.Shows.{Shows}
 use Rattle.bus_visit.specs.Shown.{IsBetweenCalls, shown}
-use Rattle.bus_visit.specs.Visited.{MakesRegisteredVisit, FirstVisits}
-use Rattle.bus_peers.specs.inside.Slots.{Stands, AllStand, IsNew, CallStands, CallStandsAfter, AllBuilt, VisitsKeepCall, VisitInRecord, Told}
-use Rattle.bus_visit.specs.laws.Records.{waits_in-append}
-use Rattle.bus_peers.proofs.VisitsInRecord.{goes-again, goes-first, part-quiet}
+use Rattle.bus_visit.specs.First.{FirstVisits}
+use Rattle.bus_visit.specs.Timed.{MakesVisit, limit_after}
+use Rattle.bus_session.specs.Counts.{notices_in}
+use Rattle.bus_peers.specs.inside.Slots.{Stands, AllStand, IsNew, CallStands, CallStandsAfter, VisitsKeepCall, VisitInRecord, Told}
+use Rattle.bus_visit.specs.laws.Records.{waits_in-append, notices_in-append}
+use Rattle.bus_peers.proofs.TimedVisits.{goes-again, goes-first}
+use Rattle.bus_peers.proofs.VisitsInRecord.{part-quiet}
 use Rattle.bus_peers.proofs.OtherWires.{others-still}
-use Rattle.bus_peers.proofs.Standing.{Still, WaitsOn, stands-move, stand-at, stand-move, stand-set, stand-more, get-take}
-use Rattle.bus_peers.proofs.SlotLemmas.{test-at}
+use Rattle.bus_peers.proofs.Standing.{Still, WaitsOn, EarlyOn, stands-move, stand-at, stand-move, stand-set, stand-more, get-take}
 
 -- ---- the start
 
@@ -62,7 +63,7 @@ going-start sessions rounds r core slots rests empty none =
         unused = λ w le. record { unvisited = refl; unheard = refl };
         counted = refl;
         ticker = omega arith;
-        made = refl;
+        made = omega arith;
         begun = min-none core.begun (2 ^ 64 - 1) (omega (arith, rests.fits));
       },
     ))
@@ -81,16 +82,23 @@ other-pending w wire pending ne is = let off : (wire == w) ≡ false = ne_eqb wi
 visit-still : (w wire : ℕ) (past : Pieces) (v : List Event) → w ≢ wire → part w v ≡ [] → Still w past (past ▸ visit wire v)
 visit-still w wire past v ne none =
     let still = others-still wire w past v (ne_eqb wire w (λ e. ne (sym e))) in
-    record { key = still.key; paused = still.paused; moment = still.moment; own = part-quiet w (pieces.told past) v none }
+    record { key = still.key; paused = still.paused; moment = still.moment; notified = still.notified; own = part-quiet w (pieces.told past) v none }
 
 visit-waits : (w wire : ℕ) (pending : List ℕ) (past : Pieces) (v : List Event) → w ≢ wire → WaitsOn w (wire ∷ pending) pending past (past ▸ visit wire v)
 visit-waits w wire pending past v ne dir (inl up) = inl ((others-still wire w past v (ne_eqb wire w (λ e. ne (sym e)))).waits dir ∙ up)
 visit-waits w wire pending past v ne dir (inr is) = inr (other-pending w wire pending ne is)
 
+visit-early : (deadline : Option ℕ) (w wire : ℕ) (pending : List ℕ) (past : Pieces) (v : List Event) → w ≢ wire →
+    EarlyOn deadline w (wire ∷ pending) pending past (past ▸ visit wire v)
+visit-early deadline w wire pending past v ne (inl up) =
+    let off : (wire == w) ≡ false = ne_eqb wire w (λ e. ne (sym e)) in inl (rw off up)
+visit-early deadline w wire pending past v ne (inr is) = inr (other-pending w wire pending ne is)
+
 visit-stands : (s : Session) (wire : ℕ) (pending : List ℕ) (past : Pieces) (v : List Event) (r0 r1 : Option (List Event)) (old new : Core) (c : Slot) → VisitInRecord s wire past r0 r1 old new c v →
     (t : Session) (w : ℕ) (d : Slot) → w ≢ wire → Stands t w (wire ∷ pending) past d → Stands t w pending (past ▸ visit wire v) d
 visit-stands s wire pending past v r0 r1 old new c g t w d ne is =
-    stands-move t w (wire ∷ pending) pending past (past ▸ visit wire v) d (visit-still w wire past v ne (g.others w ne)) (visit-waits w wire pending past v ne) is
+    stands-move t w (wire ∷ pending) pending past (past ▸ visit wire v) d (visit-still w wire past v ne (g.others w ne))
+    (visit-waits w wire pending past v ne) (λ sl e. visit-early t.deadline w wire pending past v ne) is
 
 visit-new : (w wire : ℕ) (past : Pieces) (v : List Event) → w ≢ wire → part w v ≡ [] → IsNew w past → IsNew w (past ▸ visit wire v)
 visit-new w wire past v ne none new = record {
@@ -116,7 +124,7 @@ visit-more sessions rounds n wire pending begin before r0 r1 old new slots slots
     unused = λ w le. let ne : w ≢ wire = λ e. omega (arith, le, within, e) in visit-new w wire past v ne (x.others w ne) (g.unused w (omega (arith, le, more)));
     counted = waits_in-append (pieces.told past) v ∙ omega (arith, x.waits, g.counted);
     ticker = x.ticker ∙ g.ticker;
-    made = x.made ∙ g.made;
+    made = omega (arith, x.made, g.made, notices_in-append (pieces.told past) v);
     begun = x.begun ∙ (ap (λ b. after_begun b (count_by is_modify v)) g.begun ∙ begun-more begin.begun (armings_in past) (count_by is_modify v));
   },
 )
@@ -139,30 +147,33 @@ again-more sessions rounds n wire pending begin before r0 r1 old new slots past 
 
 again-at : (sessions : List Session) (rounds n wire : ℕ) (pending : List ℕ) (begin : Core)
     (before r0 r1 : Option (List Event)) (old new : Core) (slots : List Slot) (past : Pieces) (sl : Sleeper)
-    (c : Slot) → AllBuilt sessions →
-    slice_get slots wire ≡ Some (slot.Asleep sl) → MakesRegisteredVisit wire sl.key r0 r1 old new sl.client c →
+    (c : Slot) →
+    slice_get slots wire ≡ Some (slot.Asleep sl) →
+    MakesVisit wire sl.key (limit_after sl.alarm) r0 r1 old new sl.client c →
     rounds_in past ≡ n → CallStands sessions rounds (wire ∷ pending) begin before r0 old slots past →
     (s : Session) × (slice_get (take (length slots) sessions) wire ≡ Some s) ×
     Stands s wire (wire ∷ pending) past (slot.Asleep sl) →
     CallStandsAfter sessions rounds pending n begin before r1 new (slice_set slots wire c)
-again-at sessions rounds n wire pending begin before r0 r1 old new slots past sl c built was stays count g (s, at, is) =
+again-at sessions rounds n wire pending begin before r0 r1 old new slots past sl c was stays count g (s, at, is) =
     again-more sessions rounds n wire pending begin before r0 r1 old new slots past s (slot.Asleep sl) c was at count g
-    (goes-again s wire past r0 r1 old new sl (wire ∷ pending) c (test-at is_built sessions wire s built (get-take (length slots) wire sessions s at)) g.shows is stays)
+    (goes-again s wire past r0 r1 old new sl (wire ∷ pending) c g.shows is stays)
 
 again-from : (sessions : List Session) (rounds n wire : ℕ) (pending : List ℕ) (begin : Core)
     (before r0 r1 : Option (List Event)) (old new : Core) (slots : List Slot) (sl : Sleeper) (c : Slot) →
-    AllBuilt sessions →
-    slice_get slots wire ≡ Some (slot.Asleep sl) → MakesRegisteredVisit wire sl.key r0 r1 old new sl.client c →
+    slice_get slots wire ≡ Some (slot.Asleep sl) →
+    MakesVisit wire sl.key (limit_after sl.alarm) r0 r1 old new sl.client c →
     CallStandsAfter sessions rounds (wire ∷ pending) n begin before r0 old slots →
     CallStandsAfter sessions rounds pending n begin before r1 new (slice_set slots wire c)
-again-from sessions rounds n wire pending begin before r0 r1 old new slots sl c built was stays (past, count, g) =
-    again-at sessions rounds n wire pending begin before r0 r1 old new slots past sl c built was stays count g
+again-from sessions rounds n wire pending begin before r0 r1 old new slots sl c was stays (past, count, g) =
+    again-at sessions rounds n wire pending begin before r0 r1 old new slots past sl c was stays count g
     (stand-at 0 wire wire (wire ∷ pending) (take (length slots) sessions) slots past (slot.Asleep sl) (omega arith) was g.stands)
 
 pub going-again : (wire : ℕ) (pending : List ℕ) (r0 r1 : Option (List Event)) (old new : Core) (slots : List Slot) (sl : Sleeper) (c : Slot) →
-    slice_get slots wire ≡ Some (slot.Asleep sl) → MakesRegisteredVisit wire sl.key r0 r1 old new sl.client c → VisitsKeepCall (wire ∷ pending) pending r0 r1 old new slots (slice_set slots wire c)
-going-again wire pending r0 r1 old new slots sl c was stays = λ sessions rounds n begin before built w.
-    again-from sessions rounds n wire pending begin before r0 r1 old new slots sl c built was stays w
+    slice_get slots wire ≡ Some (slot.Asleep sl) →
+    MakesVisit wire sl.key (limit_after sl.alarm) r0 r1 old new sl.client c →
+    VisitsKeepCall (wire ∷ pending) pending r0 r1 old new slots (slice_set slots wire c)
+going-again wire pending r0 r1 old new slots sl c was stays = λ sessions rounds n begin before w.
+    again-from sessions rounds n wire pending begin before r0 r1 old new slots sl c was stays w
 
 -- ---- a first visit
 
@@ -190,20 +201,19 @@ first-more sessions rounds wire pending begin before r0 r1 old new slots past s 
 
 first-at : (sessions : List Session) (rounds wire : ℕ) (pending : List ℕ) (begin : Core)
     (before r0 r1 : Option (List Event)) (old new : Core) (slots : List Slot) (s : Session) (c : Slot) →
-    is_built s ≡ true →
     wire ≡ length slots → slice_get sessions wire ≡ Some s → FirstVisits s wire r0 r1 old new c →
     CallStandsAfter sessions rounds (wire ∷ pending) 0 begin before r0 old slots → CallStandsAfter sessions rounds pending 0 begin before r1 new (slots ++ c ∷ [])
-first-at sessions rounds wire pending begin before r0 r1 old new slots s c built here at visits (past, count, g) =
+first-at sessions rounds wire pending begin before r0 r1 old new slots s c here at visits (past, count, g) =
     first-more sessions rounds wire pending begin before r0 r1 old new slots past s c here at count g
-    (goes-first s wire past r0 r1 old new c built g.shows (g.unused wire (omega (arith, here))) g.rests visits)
+    (goes-first s wire past r0 r1 old new c g.shows (g.unused wire (omega (arith, here))) g.rests visits)
 
-pub going-first : (sessions : List Session) (rounds wire : ℕ) (begin : Core) (before r0 r1 : Option (List Event)) (old new : Core) (slots : List Slot) (s : Session) (c : Slot) → is_built s ≡ true →
+pub going-first : (sessions : List Session) (rounds wire : ℕ) (begin : Core) (before r0 r1 : Option (List Event)) (old new : Core) (slots : List Slot) (s : Session) (c : Slot) →
     wire ≡ length slots → slice_get sessions wire ≡ Some s → FirstVisits s wire r0 r1 old new c →
     CallStandsAfter sessions rounds (counting (length sessions - wire) wire) 0 begin before r0 old slots →
     CallStandsAfter sessions rounds (counting (length sessions - (wire + 1)) (wire + 1)) 0 begin before r1 new (slots ++ c ∷ [])
-going-first sessions rounds wire begin before r0 r1 old new slots s c built here at visits w =
+going-first sessions rounds wire begin before r0 r1 old new slots s c here at visits w =
     let W : List ℕ → Type 0 = λ x. CallStandsAfter sessions rounds x 0 begin before r0 old slots in
-    first-at sessions rounds wire (counting (length sessions - (wire + 1)) (wire + 1)) begin before r0 r1 old new slots s c built here at visits
+    first-at sessions rounds wire (counting (length sessions - (wire + 1)) (wire + 1)) begin before r0 r1 old new slots s c here at visits
     (subst W (counting-step (length sessions) wire (slice_get_within sessions wire s at)) w)
 
 pub went-told : (sessions : List Session) (rounds n : ℕ) (pending : List ℕ) (begin : Core) (before after : Option (List Event)) (core : Core) (slots : List Slot) →

@@ -4,6 +4,7 @@ use Rattle.std.specs.Prelude.{IfOk, OnErr}
 use Rattle.react_core.specs.Core.{Core}
 use Rattle.react_core.specs.Outer.{Outer, Keeps, visit-in-all, round-in-all}
 use Rattle.react_core.specs.Outer as part
+use Rattle.react_core.specs.Told.{told, told-told, told-nothing}
 use Rattle.bus_session.specs.declared.ended.Ended.{Ended}
 use Rattle.bus_visit.specs.declared.visiting.Slot.{Slot}
 use Rattle.bus_visit.specs.declared.visiting.Slot.TheVariants as slot
@@ -11,8 +12,14 @@ use Rattle.bus_opening.specs.Openings.{Opening}
 use Rattle.react_core.specs.declared.outside.Event.{Event}
 use Rattle.bus_session.specs.declared.session.Session.{Session}
 use Rattle.bus_visit.specs.Shown.{Tags}
-use Rattle.bus_visit.specs.Visited.{KeepsCall, FirstVisits, undialled, dialled}
-use Rattle.bus_visit.specs.Visited as visited
+use Rattle.bus_session.specs.Counts.{notices_in}
+use Rattle.bus_visit.specs.declared.timing.Limit.{Limit}
+use Rattle.bus_visit.specs.Visited.{KeepsCall}
+use Rattle.bus_visit.specs.First.{FirstVisits}
+use Rattle.bus_visit.specs.Timed.{MakesVisit}
+use Rattle.bus_visit.specs.laws.Records.{notices_in-append}
+use Rattle.bus_peers.specs.Headline.{MadeTold}
+use Rattle.bus_peers.proofs.VisitTells.{visit-told, first-told}
 use Rattle.bus_peers.specs.inside.Rounds.{EndsIn, AllEnd}
 use Rattle.bus_visit.specs.Faults.{EndingCounted, SlotCounted}
 use Rattle.bus_peers.specs.Faults.{EndedsCounted}
@@ -91,19 +98,36 @@ module _ {Origin : Type 0} where
   all-ended wire [] (e ∷ endeds) a b ends all = absurd ends
   all-ended wire (s ∷ slots) [] a b ends all = absurd ends
 
--- ---- no timer is made
+-- ---- each timer that is made is told
 
-pub visit-made : {E : Type 0} (result : Result Slot E) (wire key : ℕ) (r0 r1 : Option (List Event)) (old new : Core) (c : Opening) (ts : Tags) →
-    IfOk result (λ s. visited.MakesRegisteredVisit wire key r0 r1 old new c s) → OnErr result (KeepsCall ts r0 r1 old new) → new.made ≡ old.made
-visit-made (Ok s) wire key r0 r1 old new c ts (h, h', calls, o, x) refused = x.made
-visit-made (Err e) wire key r0 r1 old new c ts visits (more, k) = k.made
+pub made-none : (r : Option (List Event)) (core : Core) → MadeTold core core r r
+made-none r core = ([], told-nothing r, omega arith)
 
-first-visit-made : (s : Session) (wire : ℕ) (r0 r1 : Option (List Event)) (old new : Core) (c : Slot) → FirstVisits s wire r0 r1 old new c → new.made ≡ old.made
-first-visit-made s wire r0 r1 old new c (undialled dials failure e to awake same slot says) = ap (λ x. x.made) same
-first-visit-made s wire r0 r1 old new c (dialled dials wired on to (talk, client, key, mid, registered)) =
-    let (h, h', calls, o, x) = registered.stays in x.made ∙ ap (λ y. y.made) registered.core
+pub made-then : (r0 r1 r2 : Option (List Event)) (old mid new : Core) → MadeTold old mid r0 r1 → MadeTold mid new r1 r2 →
+    MadeTold old new r0 r2
+made-then r0 r1 r2 old mid new (a, x, m) (b, y, n) = (
+  a ++ b,
+  y ∙ (ap (λ r. told r b) x ∙ told-told r0 a b),
+  omega (arith, m, n, notices_in-append a b),
+)
 
-pub first-made : {E : Type 0} (result : Result Slot E) (s : Session) (wire : ℕ) (r0 r1 : Option (List Event)) (old new : Core) (ts : Tags) →
-    IfOk result (λ c. FirstVisits s wire r0 r1 old new c) → OnErr result (KeepsCall ts r0 r1 old new) → new.made ≡ old.made
-first-made (Ok c) s wire r0 r1 old new ts visits refused = first-visit-made s wire r0 r1 old new c visits
-first-made (Err e) s wire r0 r1 old new ts visits (more, k) = k.made
+-- nothing was made, and something may have been told without a notice
+pub made-quiet : (r0 r1 : Option (List Event)) (old new : Core) (more : List Event) → r1 ≡ told r0 more →
+    new.made ≡ old.made → notices_in more ≡ 0 → MadeTold old new r0 r1
+made-quiet r0 r1 old new more told-so same none = (more, told-so, omega (arith, same, none))
+
+kept-made : (ts : Tags) (r0 r1 : Option (List Event)) (old new : Core) → KeepsCall ts r0 r1 old new → MadeTold old new r0 r1
+kept-made ts r0 r1 old new (more, k) = (more, k.gained, k.made)
+
+pub visit-made : {E : Type 0} (result : Result Slot E) (wire key : ℕ) (limit : Option Limit) (r0 r1 : Option (List Event))
+    (old new : Core) (c : Opening) (ts : Tags) → IfOk result (λ s. MakesVisit wire key limit r0 r1 old new c s) →
+    OnErr result (KeepsCall ts r0 r1 old new) → MadeTold old new r0 r1
+visit-made (Ok s) wire key limit r0 r1 old new c ts visits refused =
+    let (more, t) = visit-told wire key limit r0 r1 old new c s visits in (more, t.gained, t.made)
+visit-made (Err e) wire key limit r0 r1 old new c ts visits refused = kept-made ts r0 r1 old new refused
+
+pub first-made : {E : Type 0} (result : Result Slot E) (s : Session) (wire : ℕ) (r0 r1 : Option (List Event))
+    (old new : Core) (ts : Tags) → IfOk result (λ c. FirstVisits s wire r0 r1 old new c) →
+    OnErr result (KeepsCall ts r0 r1 old new) → MadeTold old new r0 r1
+first-made (Ok c) s wire r0 r1 old new ts visits refused = first-told s wire r0 r1 old new c visits
+first-made (Err e) s wire r0 r1 old new ts visits refused = kept-made ts r0 r1 old new refused

@@ -1,6 +1,6 @@
 -- The sources that a refused call leaves, and their removals.
 use Rattle.std.proofs.Common.{◌≡◌, ◌≢◌, ◌≤◌, ◌+◌, ℕ, zero, suc, Bool, true, false, ◌==◌, if◌then◌else◌, List, []}
-use Rattle.std.proofs.Common.{◌∷◌, ◌++◌, length, map, Option, Some, None, refl, sym, ◌∙◌, ap, subst, arith}
+use Rattle.std.proofs.Common.{◌∷◌, ◌++◌, length, map, Option, Some, None, Result, refl, sym, ◌∙◌, ap, subst, arith}
 use Rattle.std.specs.Prelude.{flat_map}
 use Rattle.std.specs.List.{list_all}
 use Rattle.std.proofs.lemmas.Bool.{both_ways, eq-eqb, eqb-true, and_from}
@@ -15,16 +15,19 @@ use Rattle.bus_record.specs.Places.{key_of}
 use Rattle.bus_record.specs.Settled.{numbered, removal}
 use Rattle.bus_record.specs.Failing.{Made, removals, other_removals}
 use Rattle.bus_visit.specs.declared.visiting.Slot.{Slot}
-use Rattle.bus_visit.specs.Counts.{waits_in}
+use Rattle.bus_session.specs.Counts.{waits_in, notices_in}
+use Rattle.bus_peers.specs.Headline.{MadeTold}
+use Rattle.bus_peers.specs.declared.open.OpenError.{OpenError}
+use Rattle.bus_peers.proofs.FrameLemmas.{made-quiet}
 use Rattle.bus_visit.specs.Registry.{Held}
 use Rattle.bus_visit.specs.Shown.{shown, tags, tag_at, without_tag, has_wire, Single}
 use Rattle.bus_visit.specs.laws.Tags.{held-tag, tag-held, has_wire-without, no_wire-without, tag_at-without, single-without}
 use Rattle.bus_peers.specs.inside.Closing.{removals_of, closing}
-use Rattle.bus_peers.specs.inside.Failures.{LeftAll, LeftBut}
+use Rattle.bus_peers.specs.inside.Failures.{LeftAll, LeftBut, Removes}
 use Rattle.bus_peers.specs.inside.Shows.{Shows}
 use Rattle.bus_peers.specs.inside.Slots.{Owned}
 use Rattle.bus_peers.proofs.ClosingLemmas.{removals-none, removals-one}
-use Rattle.bus_peers.proofs.MadeLemmas.{is_quiet_call, made-waits}
+use Rattle.bus_peers.proofs.MadeLemmas.{is_quiet_call, made-waits, is_unnoticed, unnoticed, made-notices}
 use Rattle.bus_peers.proofs.SlotLemmas.{asleep-at, no_wire-above}
 
 -- ---- what is left
@@ -155,3 +158,32 @@ quiet-closing (suc n) from held =
 pub closing-waits : (ample : Bool) (n : ℕ) (held : List Held) (gone : List Event) → Made ample (closing n 0 held) gone →
     waits_in gone ≡ 0
 closing-waits ample n held gone made = made-waits ample (closing n 0 held) gone (quiet-closing n 0 held) made
+
+-- nor a notice
+unnoticed-removals : (held : List Held) (w : ℕ) → list_all is_unnoticed (removals_of held w) ≡ true
+unnoticed-removals [] w = refl
+unnoticed-removals (h ∷ held) w = go (h.wire == w) (unnoticed-removals held w) where
+  go : (b : Bool) → list_all is_unnoticed (removals_of held w) ≡ true →
+      list_all is_unnoticed (if b then event.Delete h.wire h.key true ∷ [] else removals_of held w) ≡ true
+  go true ih = refl
+  go false ih = ih
+
+unnoticed-closing : (n from : ℕ) (held : List Held) → list_all is_unnoticed (closing n from held) ≡ true
+unnoticed-closing zero from held = refl
+unnoticed-closing (suc n) from held =
+    list_all-append is_unnoticed (removals_of held from) (closing n (from + 1) held)
+    ∙ and_from _ _ (unnoticed-removals held from) (unnoticed-closing n (from + 1) held)
+
+pub closing-notices : (ample : Bool) (n : ℕ) (held : List Held) (gone : List Event) →
+    Made ample (closing n 0 held) gone → notices_in gone ≡ 0
+closing-notices ample n held gone made = made-notices ample (closing n 0 held) gone (unnoticed-closing n 0 held) made
+
+pub closing-quiet : (n from : ℕ) (held : List Held) → notices_in (closing n from held) ≡ 0
+closing-quiet n from held = unnoticed (closing n from held) (unnoticed-closing n from held)
+
+-- removals make no timer
+pub closing-made : {T : Type 0} (ample : Bool) (n : ℕ) (held : List Held) (removed : Result T OpenError)
+    (r0 r1 : Option (List Event)) (old new : Core) → new.made ≡ old.made →
+    Removes ample (closing n 0 held) removed r0 r1 → MadeTold old new r0 r1
+closing-made ample n held removed r0 r1 old new same (gone, gained, made, failed) =
+    made-quiet r0 r1 old new gone gained same (closing-notices ample n held gone made)

@@ -1,5 +1,5 @@
 -- What a round wakes, and what the record shows of it.
-use Rattle.std.proofs.Common.{◌≡◌, ◌<◌, ◌≤◌, ◌+◌, ℕ, zero, suc, Bool, true, false, ◌||◌, ◌&&◌, eqb, ◌==◌, List, []}
+use Rattle.std.proofs.Common.{◌≡◌, ◌<◌, ◌≤◌, ◌+◌, ◌-◌, ◌^◌, ℕ, zero, suc, Bool, true, false, ◌||◌, ◌&&◌, eqb, ◌==◌, List, []}
 use Rattle.std.proofs.Common.{◌∷◌, ◌++◌, length, map, Option, Some, None, Result, Ok, Err, IsErrAnd, slice_index}
 use Rattle.std.proofs.Common.{slice_index_or, nat_cmp, IsSorted, IsPermutation, Decides, refl, sym, ◌∙◌, ap, subst}
 use Rattle.std.proofs.Common.{arith}
@@ -27,37 +27,41 @@ use Rattle.react_core.specs.declared.outside.Fault.{Fault}
 use Rattle.react_core.specs.declared.outside.Fault.TheVariants as fault
 use Rattle.react_core.specs.Told.{told, told-nothing, modify_told}
 use Rattle.react_core.specs.Core.{Core, ReactorState, timers_applied}
-use Rattle.react_core.specs.Timing.{wait_limit}
+use Rattle.react_core.specs.Timing.{wait_limit, pass_tasks}
 use Rattle.react_core.specs.declared.reactor.Counter.TheVariants as counter
 use Rattle.react_core.specs.Sources.{source_of}
 use Rattle.react_core.specs.Sources as sources_of
 use Rattle.react_core.specs.Reports.{marked, without_task, reported, task_of, tasks_of, future_tasks, taken_of}
 use Rattle.react_core.specs.Reports.{taken_by, taken_by_all, after_report, after_report_of, after_reports}
 use Rattle.react_core.specs.Reports.{armings_by_of, armings_by, armings_by_all, armed_told, Try, tries_told}
-use Rattle.react_core.specs.Round.{reports_of, Ran, Course, CourseSteps, Pause, Unwaited, Waited, Reread, Unreread, Unread, Read, course_told, pause_reports, NumberedBy, OnExhausted, UnlessExhausted}
+use Rattle.react_core.specs.Round.{reports_of, Ran, Course, CourseSteps, Pause, Unwaited, Waited, Reread, Unreread, Unread, Read, course_told, pause_reports, pause_again, NumberedBy, OnExhausted, UnlessExhausted}
 use Rattle.react_core.specs.Step.{WokeAll}
 use Rattle.bus_peers.specs.declared.rounds.Woken.{Woken}
 use Rattle.bus_peers.specs.declared.open.OpenError.{OpenError}
 use Rattle.bus_peers.specs.Headline.{open_error}
-use Rattle.bus_peers.specs.inside.RoundEvents.{Round, round_told, reading_told}
+use Rattle.bus_peers.specs.inside.RoundEvents.{Round, round_told, reading_told, left_after}
 use Rattle.bus_visit.specs.Registry.{Held, Side, Idle, Waits, Reported, held_at, registry, arming, waits, told_of, reported_held, after_wait, after_report_held, after_reports_held, Apart, Distinct}
 use Rattle.bus_peers.specs.inside.RoundEvents.{rearming, rearming_of}
 use Rattle.bus_peers.specs.inside.Due.{RisesFrom}
 use Rattle.bus_session.specs.Parts.{part}
 use Rattle.bus_peers.specs.inside.Rounds.{WokenBy, Rounded}
-use Rattle.bus_peers.specs.inside.Due.{is_in, is_due, due_at}
+use Rattle.bus_peers.specs.inside.Due.{is_in, is_due, due_at, late_at}
 use Rattle.bus_peers.specs.inside.Rounds.{round_events}
-use Rattle.bus_visit.specs.Counts.{waits_in}
+use Rattle.bus_session.specs.Counts.{waits_in, notices_in}
 use Rattle.bus_record.specs.Failing.{Made}
 use Rattle.bus_peers.specs.inside.Failures.{IfPoller, RoundFailed}
-use Rattle.bus_peers.specs.inside.Slots.{Told, Refuses, RefusedAt}
+use Rattle.bus_peers.specs.inside.Slots.{Told, Refuses, RefusedAt, LastRound}
+use Rattle.bus_peers.specs.Headline.{MadeTold}
+use Rattle.bus_peers.proofs.FrameLemmas.{made-quiet}
+use Rattle.bus_peers.proofs.LateTimers.{late-tasks}
+use Rattle.react_timers.specs.Live.{due, later, tasks}
 use Rattle.bus_visit.specs.Shown.{shown, side_of, place_side, Sane, SanePlace, SaneTask, SaneSource, AllSane, IsBetweenCalls, tags}
-use Rattle.bus_peers.proofs.Courses.{RoundCut, rounds-cut, Rounds, course-core, after_round}
+use Rattle.bus_peers.proofs.Courses.{RoundCut, rounds-cut, Rounds, course-core, after_round, round_tasks}
 use Rattle.bus_visit.specs.laws.Sources.{shown_at, held_at-shown, reported-shown, arming-shown, lone-marked, after_report-shown, after_reports-shown}
 use Rattle.bus_visit.specs.laws.Sanity.{sane-at, sane-with}
 use Rattle.bus_visit.specs.laws.Tags.{tags-after_reports}
 use Rattle.bus_visit.specs.laws.Armings.{arming-quiet, arming-apart}
-use Rattle.bus_visit.specs.laws.Records.{registry-append, part-append, waits_in-append}
+use Rattle.bus_visit.specs.laws.Records.{registry-append, part-append, waits_in-append, notices_in-append}
 
 -- ---- each once and in order
 
@@ -132,8 +136,8 @@ wait-held wait_answer.Interrupted held = refl
 wait-held wait_answer.Failed held = refl
 
 pub round-held : (r : Round) (held : List Held) → registry held (round_events held r) ≡ after_reports_held held (reports_of r.answer)
-round-held r held = registry-append held (round_told None r) (rearming held (reports_of r.answer))
-    ∙ (rearming-quiet held (reports_of r.answer) (registry held (round_told None r))
+round-held r held = registry-append held (round_told r) (rearming held (reports_of r.answer))
+    ∙ (rearming-quiet held (reports_of r.answer) (registry held (round_told r))
     ∙ (reading-quiet r.second (after_wait held r.answer) ∙ wait-held r.answer held))
 
 -- ---- the reports keep the sources sane, and the wires apart
@@ -402,32 +406,67 @@ woken-all old new (task ∷ tasks) (mid, one, more) kept =
 
 -- ---- a whole round
 
+-- the timers that a round leaves
+round-timers : (old : Core) (first : ℕ) (reports : List Report) (again : Option ℕ) →
+    timers_applied (after_round old first reports again) ≡ left_after again (later first (timers_applied old))
+round-timers old first reports None = refl
+round-timers old first reports (Some moment) = refl
+
+or_turn : (a b c : Bool) → ((a || b) || c) ≡ (b || (a || c))
+or_turn true true c = refl
+or_turn true false c = refl
+or_turn false true c = refl
+or_turn false false c = refl
+
+-- the tasks that it wakes are the wires due and those of the timers due
+round-due : (w low : ℕ) (old : Core) (r : Round) → AllSane (old.ticker + 1) old.ticker old.sources →
+    Rising low (map shown old.sources) →
+    is_in w (round_tasks old r.first (reports_of r.answer) r.second)
+    ≡ (due_at (map shown old.sources) (reports_of r.answer) w || late_at (timers_applied old) r.first r.second w)
+round-due w low old r sane up =
+    let first : List ℕ = tasks (due r.first (timers_applied old)) in
+    let taken : List ℕ = taken_by_all (old.ticker + 1) old.sources (reports_of r.answer) in
+    let second : List ℕ = pass_tasks r.second (later r.first (timers_applied old)) [] in
+    list_any-append (λ x. x == w) (first ++ taken) second
+    ∙ (ap (λ b. b || is_in w second) (list_any-append (λ x. x == w) first taken)
+    ∙ (or_turn (is_in w first) (is_in w taken) (is_in w second)
+    ∙ (ap (λ b. b || (is_in w first || is_in w second)) (taken-due w old.ticker low old.sources (reports_of r.answer) sane up)
+    ∙ ap (λ b. due_at (map shown old.sources) (reports_of r.answer) w || b)
+    (late-tasks w r.first r.second (timers_applied old)))))
+
 -- the wires of these woken tasks, each once and in order, are those that the round makes due
-pub rounded : (r0 r1 : Option (List Event)) (old new : Core) (before after : Woken) (woken : List ℕ) (r : Round) → Rounds WokenBy None r0 r1 old new before after r →
-    IsBetweenCalls old → sources_of.RisesFrom 0 old.sources → before.tasks.items ≡ [] → (after.lost ≡ false) × RisesFrom 0 woken × ((w : ℕ) → is_in w woken ≡ is_in w after.tasks.items) →
-    Rounded r0 r1 old new woken r
-rounded r0 r1 old new before after woken r round rests up none ordered =
-    let t : ℕ = old.ticker + 1 in
+pub rounded : (r0 r1 : Option (List Event)) (m0 m1 : ℕ) (old new : Core) (before after : Woken) (woken : List ℕ)
+    (r : Round) → Rounds WokenBy r0 r1 m0 m1 old new before after r → IsBetweenCalls old →
+    sources_of.RisesFrom 0 old.sources → before.tasks.items ≡ [] →
+    (after.lost ≡ false) × RisesFrom 0 woken × ((w : ℕ) → is_in w woken ≡ is_in w after.tasks.items) →
+    Rounded r0 r1 m0 m1 old new woken r
+rounded r0 r1 m0 m1 old new before after woken r round rests up none ordered =
     let reports : List Report = reports_of r.answer in
-    let sane : AllSane (old.ticker + 1) old.ticker old.sources = sane-weaker old.ticker (old.ticker + 1) old.ticker old.ticker old.sources (omega arith) (omega arith) rests.sane in
-    let all : (before.lost ≡ false) ×
-    (after.tasks.items ≡ before.tasks.items ++ taken_by_all (old.ticker + 1) old.sources reports) =
-    woken-all before after (taken_by_all (old.ticker + 1) old.sources reports) round.woken ordered.0 in
-    let tasks : after.tasks.items ≡ taken_by_all (old.ticker + 1) old.sources reports = all.1 ∙ ap (λ x. x ++ taken_by_all (old.ticker + 1) old.sources reports) none in
+    let tasks : List ℕ = round_tasks old r.first reports r.second in
+    let sane : AllSane (old.ticker + 1) old.ticker old.sources =
+    sane-weaker old.ticker (old.ticker + 1) old.ticker old.ticker old.sources (omega arith) (omega arith) rests.sane in
+    let all : (before.lost ≡ false) × (after.tasks.items ≡ before.tasks.items ++ tasks) =
+    woken-all before after tasks round.woken ordered.0 in
+    let items : after.tasks.items ≡ tasks = all.1 ∙ ap (λ x. x ++ tasks) none in
     record {
       form = round.form;
-      gained = round.gained ∙ ap (λ x. told r0 (round_told None r ++ x)) (rearming-shown old.ticker old.sources reports sane);
-      shows = round-held r (map shown old.sources) ∙ (sym (after_reports-shown (old.ticker + 1) old.sources reports) ∙ ap (λ c. map shown c.sources) (sym round.core));
+      waited = round.waited;
+      gained = round.gained ∙ ap (λ x. told r0 (round_told r ++ x)) (rearming-shown old.ticker old.sources reports sane);
+      clock = round.clock;
+      shows = round-held r (map shown old.sources)
+          ∙ (sym (after_reports-shown (old.ticker + 1) old.sources reports) ∙ ap (λ c. map shown c.sources) (sym round.core));
+      timers = ap timers_applied round.core ∙ round-timers old r.first reports r.second;
       due = record {
         rise = ordered.1;
-        each = λ w. ordered.2 w ∙ (ap (is_in w) tasks ∙ taken-due w old.ticker 0 old.sources reports sane (rising-shown 0 old.sources up));
+        each = λ w. ordered.2 w ∙ (ap (is_in w) items ∙ round-due w 0 old r sane (rising-shown 0 old.sources up));
       };
       rests = rw round.core (record {
-        sane = sane-weaker (old.ticker + 1) (old.ticker + 1) old.ticker (old.ticker + 1) (after_reports (old.ticker + 1) old.sources reports) (omega arith) (omega arith)
+        sane = sane-weaker (old.ticker + 1) (old.ticker + 1) old.ticker (old.ticker + 1)
+            (after_reports (old.ticker + 1) old.sources reports) (omega arith) (omega arith)
             (sane-reports old.ticker old.sources reports sane);
-        distinct = rw (after_reports-shown (old.ticker + 1) old.sources reports) (distinct-reports (map shown old.sources) reports rests.distinct);
+        distinct = rw (after_reports-shown (old.ticker + 1) old.sources reports)
+            (distinct-reports (map shown old.sources) reports rests.distinct);
         idle = refl;
-        timeless = refl;
         fits = rests.fits;
       });
       ticker = ap (λ c. c.ticker) round.core;
@@ -437,21 +476,24 @@ rounded r0 r1 old new before after woken r round rests up none ordered =
 
 -- ---- a round that is refused
 
-pub round-tags : {W : Type 0} (woke : W → ℕ → W → Type 0) (timeout : Option ℕ) (r0 r1 : Option (List Event))
-    (old new : Core) (wakes wakes' : W) (r : Round) → Rounds woke timeout r0 r1 old new wakes wakes' r →
+pub round-tags : {W : Type 0} (woke : W → ℕ → W → Type 0) (r0 r1 : Option (List Event)) (m0 m1 : ℕ)
+    (old new : Core) (wakes wakes' : W) (r : Round) → Rounds woke r0 r1 m0 m1 old new wakes wakes' r →
     tags new.sources ≡ tags old.sources
-round-tags woke timeout r0 r1 old new wakes wakes' r round = ap (λ c. tags c.sources) round.core ∙ tags-after_reports (old.ticker + 1) old.sources (reports_of r.answer)
+round-tags woke r0 r1 m0 m1 old new wakes wakes' r round =
+    ap (λ c. tags c.sources) round.core ∙ tags-after_reports (old.ticker + 1) old.sources (reports_of r.answer)
 
-course_tags : (old new : Core) (timeout : Option ℕ) (course : Course) (tasks : List ℕ) → timers_applied old ≡ [] → CourseSteps old timeout course tasks new →
-    tags new.sources ≡ tags old.sources
-course_tags old new timeout Unread tasks none steps = ap (λ c. tags c.sources) steps.core
-course_tags old new timeout (Read first pause) tasks none steps =
-    ap (λ c. tags c.sources) (course-core old new timeout first pause tasks none steps) ∙ tags-after_reports (old.ticker + 1) old.sources (pause_reports pause)
+course_tags : (old new : Core) (timeout : Option ℕ) (course : Course) (tasks : List ℕ) →
+    CourseSteps old timeout course tasks new → tags new.sources ≡ tags old.sources
+course_tags old new timeout Unread tasks steps = ap (λ c. tags c.sources) steps.core
+course_tags old new timeout (Read first pause) tasks steps =
+    ap (λ c. tags c.sources) (course-core old new timeout first pause tasks steps)
+    ∙ tags-after_reports (old.ticker + 1) old.sources (pause_reports pause)
 
-course_made : (old new : Core) (timeout : Option ℕ) (course : Course) (tasks : List ℕ) → timers_applied old ≡ [] → CourseSteps old timeout course tasks new →
-    new.made ≡ old.made
-course_made old new timeout Unread tasks none steps = ap (λ c. c.made) steps.core
-course_made old new timeout (Read first pause) tasks none steps = ap (λ c. c.made) (course-core old new timeout first pause tasks none steps)
+course_made : (old new : Core) (timeout : Option ℕ) (course : Course) (tasks : List ℕ) →
+    CourseSteps old timeout course tasks new → new.made ≡ old.made
+course_made old new timeout Unread tasks steps = ap (λ c. c.made) steps.core
+course_made old new timeout (Read first pause) tasks steps =
+    ap (λ c. c.made) (course-core old new timeout first pause tasks steps)
 
 -- what a refused round came to
 abbrev pub RanSo : Bool → Option (List Event) → Option (List Event) → ℕ → ℕ → ReactorState → ReactorState → Woken → Woken → ReactError → Type 0
@@ -461,23 +503,15 @@ abbrev pub Same : ReactorState → ReactorState → Option (List Event) → Opti
 Same old new r0 r1 wakes wakes' m0 m1 = (new ≡ old) × (wakes' ≡ wakes) × (r1 ≡ r0) × (m1 ≡ m0)
 
 ran_tags : {ample : Bool} (r0 r1 : Option (List Event)) (m0 m1 : ℕ) (old new : ReactorState) (wakes wakes' : Woken)
-    (e : ReactError) → timers_applied old.core ≡ [] → RanSo ample r0 r1 m0 m1 old new wakes wakes' e → tags new.core.sources ≡ tags old.core.sources
-ran_tags r0 r1 m0 m1 old new wakes wakes' e none (course, tries, ran) = course_tags old.core new.core None course ran.tasks none ran.steps
+    (e : ReactError) → RanSo ample r0 r1 m0 m1 old new wakes wakes' e → tags new.core.sources ≡ tags old.core.sources
+ran_tags r0 r1 m0 m1 old new wakes wakes' e (course, tries, ran) = course_tags old.core new.core None course ran.tasks ran.steps
 
 pub refused-tags : (ample : Bool) (r0 r1 : Option (List Event)) (m0 m1 : ℕ) (old new : ReactorState) (wakes wakes' : Woken)
-    (e : ReactError) → timers_applied old.core ≡ [] → UnlessExhausted {T = Unit {0}} (Err e) (RanSo ample r0 r1 m0 m1 old new wakes wakes' e) →
+    (e : ReactError) → UnlessExhausted {T = Unit {0}} (Err e) (RanSo ample r0 r1 m0 m1 old new wakes wakes' e) →
     OnExhausted {T = Unit {0}} (Err e) (Same old new r0 r1 wakes wakes' m0 m1) → tags new.core.sources ≡ tags old.core.sources
-refused-tags ample r0 r1 m0 m1 old new wakes wakes' react_err.Poller none ran same = ran_tags r0 r1 m0 m1 old new wakes wakes' react_err.Poller none ran
-refused-tags ample r0 r1 m0 m1 old new wakes wakes' react_err.OutOfMemory none ran same = ran_tags r0 r1 m0 m1 old new wakes wakes' react_err.OutOfMemory none ran
-refused-tags ample r0 r1 m0 m1 old new wakes wakes' (react_err.Exhausted c value) none ran same = ap (λ x. tags x.core.sources) same.0
-
--- a round that was refused made no timer
-pub refused-made : (ample : Bool) (r0 r1 : Option (List Event)) (m0 m1 : ℕ) (old new : ReactorState) (wakes wakes' : Woken)
-    (e : ReactError) → timers_applied old.core ≡ [] → UnlessExhausted {T = Unit {0}} (Err e) (RanSo ample r0 r1 m0 m1 old new wakes wakes' e) →
-    OnExhausted {T = Unit {0}} (Err e) (Same old new r0 r1 wakes wakes' m0 m1) → new.core.made ≡ old.core.made
-refused-made ample r0 r1 m0 m1 old new wakes wakes' react_err.Poller none (course, tries, ran) same = course_made old.core new.core None course ran.tasks none ran.steps
-refused-made ample r0 r1 m0 m1 old new wakes wakes' react_err.OutOfMemory none (course, tries, ran) same = course_made old.core new.core None course ran.tasks none ran.steps
-refused-made ample r0 r1 m0 m1 old new wakes wakes' (react_err.Exhausted c value) none ran same = ap (λ x. x.core.made) same.0
+refused-tags ample r0 r1 m0 m1 old new wakes wakes' react_err.Poller ran same = ran_tags r0 r1 m0 m1 old new wakes wakes' react_err.Poller ran
+refused-tags ample r0 r1 m0 m1 old new wakes wakes' react_err.OutOfMemory ran same = ran_tags r0 r1 m0 m1 old new wakes wakes' react_err.OutOfMemory ran
+refused-tags ample r0 r1 m0 m1 old new wakes wakes' (react_err.Exhausted c value) ran same = ap (λ x. tags x.core.sources) same.0
 
 -- an arming is no round
 modify_waits : (wire key : ℕ) (read write : Bool) (answer : Result (Unit {0}) Fault) → waits_in (modify_told wire key read write answer) ≡ 0
@@ -489,6 +523,33 @@ tries_waits : (tries : List Try) → waits_in (tries_told tries) ≡ 0
 tries_waits [] = refl
 tries_waits (t ∷ tries) = waits_in-append (modify_told t.0.wire t.0.key t.0.read t.0.write t.1) (tries_told tries)
     ∙ (ap (λ n. n + waits_in (tries_told tries)) (modify_waits t.0.wire t.0.key t.0.read t.0.write t.1) ∙ ap (λ n. 0 + n) (tries_waits tries))
+
+-- nor a notice
+modify_notices : (wire key : ℕ) (read write : Bool) (answer : Result (Unit {0}) Fault) →
+    notices_in (modify_told wire key read write answer) ≡ 0
+modify_notices wire key read write (Ok v) = refl
+modify_notices wire key read write (Err fault.Failed) = refl
+modify_notices wire key read write (Err fault.OutOfMemory) = refl
+
+tries_notices : (tries : List Try) → notices_in (tries_told tries) ≡ 0
+tries_notices [] = refl
+tries_notices (t ∷ tries) =
+    notices_in-append (modify_told t.0.wire t.0.key t.0.read t.0.write t.1) (tries_told tries)
+    ∙ (ap (λ n. n + notices_in (tries_told tries)) (modify_notices t.0.wire t.0.key t.0.read t.0.write t.1)
+    ∙ ap (λ n. 0 + n) (tries_notices tries))
+
+course_quiet : (limit : ℕ → Option ℕ) (course : Course) → notices_in (course_told limit course) ≡ 0
+course_quiet limit Unread = refl
+course_quiet limit (Read first Unwaited) = refl
+course_quiet limit (Read first (Waited answer)) = refl
+course_quiet limit (Read first (Reread answer moment)) = refl
+course_quiet limit (Read first (Unreread answer)) = refl
+
+course_notices : (limit : ℕ → Option ℕ) (course : Course) (tries : List Try) →
+    notices_in (course_told limit course ++ tries_told tries) ≡ 0
+course_notices limit course tries =
+    notices_in-append (course_told limit course) (tries_told tries)
+    ∙ (ap (λ n. n + notices_in (tries_told tries)) (course_quiet limit course) ∙ ap (λ n. 0 + n) (tries_notices tries))
 
 -- one Wait was told
 paused_waits : (limit : ℕ → Option ℕ) (first : ℕ) (pause : Pause) (tries : List Try) → waits_in (course_told limit (Read first pause)) ≡ 1 →
@@ -503,31 +564,31 @@ limit_of old first = wait_limit old.core first None
 paused_told : {ample : Bool} (r0 r1 : Option (List Event)) (m0 m1 : ℕ) (old new : ReactorState) (wakes wakes' : Woken) (first : ℕ)
     (pause : Pause) (tries : List Try) → Ran WokenBy None ample r0 r1 m0 m1 old new wakes wakes' (Err react_err.Poller)
     (Read first pause) tries →
-    timers_applied old.core ≡ [] →
     new.core.hands ≡ None → waits_in (course_told (limit_of old) (Read first pause)) ≡ 1 → Told r0 r1 old.core new.core (course_told (limit_of old) (Read first pause) ++ tries_told tries)
-paused_told r0 r1 m0 m1 old new wakes wakes' first pause tries ran none closed one =
-    let core : new.core ≡ after_round old.core (pause_reports pause) = course-core old.core new.core None first pause ran.tasks none ran.steps in record {
+paused_told r0 r1 m0 m1 old new wakes wakes' first pause tries ran closed one =
+    let core : new.core ≡ after_round old.core first (pause_reports pause) (pause_again pause) =
+    course-core old.core new.core None first pause ran.tasks ran.steps in record {
       gained = ran.gained;
-      made = ap (λ c. c.made) core;
+      made = omega (arith, ap (λ c. c.made) core, course_notices (limit_of old) (Read first pause) tries);
       closed = closed;
       ticker = ap (λ c. c.ticker) core ∙ ap (λ n. old.core.ticker + n) (sym (paused_waits (limit_of old) first pause tries one));
     }
 
 poller_told : {ample : Bool} (r0 r1 : Option (List Event)) (m0 m1 : ℕ) (old new : ReactorState) (wakes wakes' : Woken)
     (course : Course) (tries : List Try) → Ran WokenBy None ample r0 r1 m0 m1 old new wakes wakes' (Err react_err.Poller)
-    course tries → timers_applied old.core ≡ [] → new.core.hands ≡ None →
+    course tries → new.core.hands ≡ None →
     Told r0 r1 old.core new.core (course_told (limit_of old) course ++ tries_told tries)
-poller_told r0 r1 m0 m1 old new wakes wakes' Unread tries ran none closed = let e = ran.answers in absurd cc
-poller_told r0 r1 m0 m1 old new wakes wakes' (Read first Unwaited) tries ran none closed = let e = ran.answers in absurd cc
-poller_told r0 r1 m0 m1 old new wakes wakes' (Read first (Waited answer)) tries ran none closed = paused_told r0 r1 m0 m1 old new wakes wakes' first (Waited answer) tries ran none closed refl
-poller_told r0 r1 m0 m1 old new wakes wakes' (Read first (Reread answer moment)) tries ran none closed = paused_told r0 r1 m0 m1 old new wakes wakes' first (Reread answer moment) tries ran none closed refl
-poller_told r0 r1 m0 m1 old new wakes wakes' (Read first (Unreread answer)) tries ran none closed = paused_told r0 r1 m0 m1 old new wakes wakes' first (Unreread answer) tries ran none closed refl
+poller_told r0 r1 m0 m1 old new wakes wakes' Unread tries ran closed = let e = ran.answers in absurd cc
+poller_told r0 r1 m0 m1 old new wakes wakes' (Read first Unwaited) tries ran closed = let e = ran.answers in absurd cc
+poller_told r0 r1 m0 m1 old new wakes wakes' (Read first (Waited answer)) tries ran closed = paused_told r0 r1 m0 m1 old new wakes wakes' first (Waited answer) tries ran closed refl
+poller_told r0 r1 m0 m1 old new wakes wakes' (Read first (Reread answer moment)) tries ran closed = paused_told r0 r1 m0 m1 old new wakes wakes' first (Reread answer moment) tries ran closed refl
+poller_told r0 r1 m0 m1 old new wakes wakes' (Read first (Unreread answer)) tries ran closed = paused_told r0 r1 m0 m1 old new wakes wakes' first (Unreread answer) tries ran closed refl
 
 poller_refused : {ample : Bool} (r0 r1 : Option (List Event)) (m0 m1 : ℕ) (old new : ReactorState) (wakes wakes' : Woken) →
-    RanSo ample r0 r1 m0 m1 old new wakes wakes' react_err.Poller → timers_applied old.core ≡ [] → new.core.hands ≡ None → (more : List Event) ×
+    RanSo ample r0 r1 m0 m1 old new wakes wakes' react_err.Poller → new.core.hands ≡ None → (more : List Event) ×
     Told r0 r1 old.core new.core more
-poller_refused r0 r1 m0 m1 old new wakes wakes' (course, tries, ran) none closed =
-    (course_told (limit_of old) course ++ tries_told tries, poller_told r0 r1 m0 m1 old new wakes wakes' course tries ran none closed)
+poller_refused r0 r1 m0 m1 old new wakes wakes' (course, tries, ran) closed =
+    (course_told (limit_of old) course ++ tries_told tries, poller_told r0 r1 m0 m1 old new wakes wakes' course tries ran closed)
 
 memory_refused : {ample : Bool} (r0 r1 : Option (List Event)) (m0 m1 : ℕ) (old new : ReactorState) (wakes wakes' : Woken) →
     RanSo ample r0 r1 m0 m1 old new wakes wakes' react_err.OutOfMemory → (more : List Event) × (r1 ≡ told r0 more)
@@ -536,7 +597,7 @@ memory_refused r0 r1 m0 m1 old new wakes wakes' (course, tries, ran) = (course_t
 same_told : (r0 r1 : Option (List Event)) (old new : ReactorState) → new ≡ old → r1 ≡ r0 → new.core.hands ≡ None → Told r0 r1 old.core new.core []
 same_told r0 r1 old new same events closed = record {
   gained = events ∙ told-nothing r0;
-  made = ap (λ x. x.core.made) same;
+  made = omega (arith, ap (λ x. x.core.made) same);
   closed = closed;
   ticker = ap (λ x. x.core.ticker) same ∙ omega arith;
 }
@@ -544,21 +605,48 @@ same_told r0 r1 old new same events closed = record {
 refused_by : (ample : Bool) (r0 r1 : Option (List Event)) (m0 m1 : ℕ) (old new : ReactorState) (wakes wakes' : Woken)
     (e : ReactError) → UnlessExhausted {T = Unit {0}} (Err e) (RanSo ample r0 r1 m0 m1 old new wakes wakes' e) →
     OnExhausted {T = Unit {0}} (Err e) (Same old new r0 r1 wakes wakes' m0 m1) →
-    NumberedBy {T = Unit {0}} counter.Round (Err e) old.core.ticker → timers_applied old.core ≡ [] → new.core.hands ≡ None →
+    NumberedBy {T = Unit {0}} counter.Round (Err e) old.core.ticker → new.core.hands ≡ None →
     RefusedAt (open_error e) r0 r1 old.core new.core
-refused_by ample r0 r1 m0 m1 old new wakes wakes' react_err.Poller ran same numbered none closed = poller_refused r0 r1 m0 m1 old new wakes wakes' ran none closed
-refused_by ample r0 r1 m0 m1 old new wakes wakes' react_err.OutOfMemory ran same numbered none closed = (closed, memory_refused r0 r1 m0 m1 old new wakes wakes' ran)
-refused_by ample r0 r1 m0 m1 old new wakes wakes' (react_err.Exhausted c value) ran same numbered none closed =
-    (numbered.0, numbered.1, ap (λ x. x.core.ticker) same.0 ∙ numbered.2, ([], same_told r0 r1 old new same.0 same.2 closed))
+refused_by ample r0 r1 m0 m1 old new wakes wakes' react_err.Poller ran same numbered closed = poller_refused r0 r1 m0 m1 old new wakes wakes' ran closed
+refused_by ample r0 r1 m0 m1 old new wakes wakes' react_err.OutOfMemory ran same numbered closed = (closed, memory_refused r0 r1 m0 m1 old new wakes wakes' ran)
+refused_by ample r0 r1 m0 m1 old new wakes wakes' (react_err.Exhausted c value) ran same numbered closed = (
+  numbered.1,
+  subst (λ k. LastRound k new.core) (sym numbered.0) (ap (λ x. x.core.ticker) same.0 ∙ numbered.2),
+  ([], same_told r0 r1 old new same.0 same.2 closed),
+)
 
 -- an answer of this refusal
 pub round-refused : {T : Type 0} (ample : Bool) (result : Result T OpenError) (r0 r1 : Option (List Event)) (m0 m1 : ℕ)
     (old new : ReactorState) (wakes wakes' : Woken) (e : ReactError) → IsErrAnd result (λ x. x ≡ open_error e) →
     UnlessExhausted {T = Unit {0}} (Err e) (RanSo ample r0 r1 m0 m1 old new wakes wakes' e) →
-    OnExhausted {T = Unit {0}} (Err e) (Same old new r0 r1 wakes wakes' m0 m1) → NumberedBy {T = Unit {0}} counter.Round (Err e) old.core.ticker → timers_applied old.core ≡ [] → new.core.hands ≡ None → Refuses result r0 r1 old.core new.core
-round-refused ample (Ok v) r0 r1 m0 m1 old new wakes wakes' e is ran same numbered none closed = tt
-round-refused ample (Err x) r0 r1 m0 m1 old new wakes wakes' e is ran same numbered none closed =
-    subst (λ y. RefusedAt y r0 r1 old.core new.core) (sym is) (refused_by ample r0 r1 m0 m1 old new wakes wakes' e ran same numbered none closed)
+    OnExhausted {T = Unit {0}} (Err e) (Same old new r0 r1 wakes wakes' m0 m1) → NumberedBy {T = Unit {0}} counter.Round (Err e) old.core.ticker → new.core.hands ≡ None → Refuses result r0 r1 old.core new.core
+round-refused ample (Ok v) r0 r1 m0 m1 old new wakes wakes' e is ran same numbered closed = tt
+round-refused ample (Err x) r0 r1 m0 m1 old new wakes wakes' e is ran same numbered closed =
+    subst (λ y. RefusedAt y r0 r1 old.core new.core) (sym is) (refused_by ample r0 r1 m0 m1 old new wakes wakes' e ran same numbered closed)
+
+-- a round makes no timer
+pub round-made : (ample : Bool) (r0 r1 : Option (List Event)) (m0 m1 : ℕ) (old new : ReactorState)
+    (wakes wakes' : Woken) (answer : Result (Unit {0}) ReactError) (course : Course) (tries : List Try) →
+    Ran WokenBy None ample r0 r1 m0 m1 old new wakes wakes' answer course tries → MadeTold old.core new.core r0 r1
+round-made ample r0 r1 m0 m1 old new wakes wakes' answer course tries ran =
+    made-quiet r0 r1 old.core new.core (course_told (limit_of old) course ++ tries_told tries) ran.gained
+    (course_made old.core new.core None course ran.tasks ran.steps) (course_notices (limit_of old) course tries)
+
+ran_made : {ample : Bool} (r0 r1 : Option (List Event)) (m0 m1 : ℕ) (old new : ReactorState) (wakes wakes' : Woken)
+    (e : ReactError) → RanSo ample r0 r1 m0 m1 old new wakes wakes' e → MadeTold old.core new.core r0 r1
+ran_made {ample} r0 r1 m0 m1 old new wakes wakes' e (course, tries, ran) =
+    round-made ample r0 r1 m0 m1 old new wakes wakes' (Err e) course tries ran
+
+pub refused-made : (ample : Bool) (r0 r1 : Option (List Event)) (m0 m1 : ℕ) (old new : ReactorState)
+    (wakes wakes' : Woken) (e : ReactError) →
+    UnlessExhausted {T = Unit {0}} (Err e) (RanSo ample r0 r1 m0 m1 old new wakes wakes' e) →
+    OnExhausted {T = Unit {0}} (Err e) (Same old new r0 r1 wakes wakes' m0 m1) → MadeTold old.core new.core r0 r1
+refused-made ample r0 r1 m0 m1 old new wakes wakes' react_err.Poller ran same =
+    ran_made r0 r1 m0 m1 old new wakes wakes' react_err.Poller ran
+refused-made ample r0 r1 m0 m1 old new wakes wakes' react_err.OutOfMemory ran same =
+    ran_made r0 r1 m0 m1 old new wakes wakes' react_err.OutOfMemory ran
+refused-made ample r0 r1 m0 m1 old new wakes wakes' (react_err.Exhausted c value) ran same =
+    made-quiet r0 r1 old.core new.core [] (same.2 ∙ told-nothing r0) (ap (λ x. x.core.made) same.0) refl
 
 -- ---- a round leaves each session where it stands
 
@@ -576,7 +664,7 @@ reading-apart w None = refl
 reading-apart w (Some t) = refl
 
 pub round-apart : (w : ℕ) (held : List Held) (r : Round) → part w (round_events held r) ≡ []
-round-apart w held r = part-append w (round_told None r) (rearming held (reports_of r.answer))
+round-apart w held r = part-append w (round_told r) (rearming held (reports_of r.answer))
     ∙ (ap (λ x. x ++ part w (rearming held (reports_of r.answer))) (reading-apart w r.second) ∙ rearming-apart w held (reports_of r.answer))
 
 report_go : (x : Held) (held : List Held) (r : Report) (k : ℕ) (h : Held) (b c : Bool) → (x.key == r.key) ≡ b → (x.key == k) ≡ c → held_at (x ∷ held) k ≡ Some h →
@@ -611,14 +699,14 @@ pub round-failed : (ample : Bool) (r0 r1 : Option (List Event)) (m0 m1 : ℕ) (o
 round-failed ample r0 r1 m0 m1 old new wakes wakes' react_err.OutOfMemory rests ran = tt
 round-failed ample r0 r1 m0 m1 old new wakes wakes' (react_err.Exhausted c value) rests ran = tt
 round-failed ample r0 r1 m0 m1 old new wakes wakes' react_err.Poller rests (course, tries, ran) =
-    failed_so (rounds-cut WokenBy ample r0 r1 m0 m1 old new rests.timeless wakes wakes' course tries ran)
+    failed_so (rounds-cut WokenBy ample r0 r1 m0 m1 old new wakes wakes' course tries ran)
   where
     ran_ticker : (course : Course) (tries : List Try) →
         Ran WokenBy None ample r0 r1 m0 m1 old new wakes wakes' (Err react_err.Poller) course tries →
         new.core.ticker ≡ old.core.ticker + 1
     ran_ticker Unread tries ran = absurd (let e = ran.answers in cc)
     ran_ticker (Read first pause) tries ran =
-        ap (λ c. c.ticker) (course-core old.core new.core None first pause ran.tasks rests.timeless ran.steps)
+        ap (λ c. c.ticker) (course-core old.core new.core None first pause ran.tasks ran.steps)
 
     failed_so : (r : Round) × (rearmed : List Event) × RoundCut ample r0 r1 old.core r rearmed →
         (r : Round) × (rearmed : List Event) × RoundFailed ample r0 r1 old.core new.core r rearmed
@@ -630,6 +718,7 @@ round-failed ample r0 r1 m0 m1 old new wakes wakes' react_err.Poller rests (cour
           r,
           rearmed,
           record {
+            waited = x.waited;
             read = x.read;
             gained = x.gained;
             made = subst M (rearming-shown old.core.ticker old.core.sources (reports_of r.answer) sane) x.made;

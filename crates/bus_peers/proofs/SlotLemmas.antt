@@ -14,18 +14,17 @@ use Rattle.std.proofs.lemmas.List.{length-set, length-append}
 use Rattle.react_core.specs.declared.outside.Event.{Event}
 use Rattle.react_core.specs.Core.{Core}
 use Rattle.react_core.specs.Told.{told, told-told, told-nothing}
-use Rattle.bus_opening.specs.Openings.{Opening}
 use Rattle.bus_peers.specs.declared.open.OpenError.{OpenError}
 use Rattle.bus_peers.specs.declared.open.OpenError.TheVariants as open_err
-use Rattle.bus_session.specs.Dialling.{Opened}
 use Rattle.bus_session.specs.declared.session.Session.{Session}
-use Rattle.bus_visit.specs.Registry.{Held}
 use Rattle.bus_peers.specs.inside.Due.{RisesFrom}
 use Rattle.bus_visit.specs.Shown.{shown, Tags, tags, tag_at, without_tag, has_wire, Single, are_below}
-use Rattle.bus_visit.specs.Visited.{tags_after, tail_of, RegisteredVisitEnds, MakesRegisteredVisit, Registers, FirstTags, FirstVisits, undialled, dialled}
+use Rattle.bus_visit.specs.Visited.{tags_after}
+use Rattle.bus_visit.specs.First.{FirstTags, FirstVisits, undialled, dialled}
+use Rattle.bus_peers.proofs.VisitTells.{KeyAt, VisitDoes, visit-does}
 use Rattle.bus_peers.specs.inside.Rounds.{HaveWires}
 use Rattle.bus_peers.specs.inside.Slots.{Owns, AllOwn, Owned, is_open_slot, CallStandsAfter, VisitsKeepCall, Told, RefusedAt, Refuses}
-use Rattle.bus_visit.specs.laws.Records.{waits_in-append}
+use Rattle.bus_visit.specs.laws.Records.{waits_in-append, notices_in-append}
 use Rattle.bus_visit.specs.laws.Tags.{has_wire-below, no_wire-without, has_wire-without, other_wire-without, tag_at-without, single-without, below-without, below-weaker}
 
 -- ---- any list and a test
@@ -157,40 +156,36 @@ owned-refused wire key slots ts new d owned at is out =
     let Q : Tags → Type 0 = λ x. Owned (slice_set slots wire slot.Refused) x in
     subst P (sym is) (subst Q (sym out) (owned-out wire key slots ts slot.Refused owned at (has_wire-without ts key wire owned.single at)))
 
-owned-visited : (wire key : ℕ) (slots : List Slot) (ts : Tags) (b : Opening) (calls : List Event)
-    (o : Option (List Event)) (held : List Held) (h : Held) (c : Slot) → Owned slots ts → tag_at ts key ≡ Some wire →
-    RegisteredVisitEnds wire key b calls o held h c → Owned (slice_set slots wire c) (tags_after key c ts)
-owned-visited wire key slots ts b calls o held h (slot.Ended e) owned at stays = owned-out wire key slots ts (slot.Ended e) owned at (has_wire-without ts key wire owned.single at)
-owned-visited wire key slots ts b calls o held h (slot.Asleep s) owned at stays =
+owned-visited : (wire key : ℕ) (slots : List Slot) (ts : Tags) (c : Slot) → Owned slots ts → tag_at ts key ≡ Some wire →
+    KeyAt key c → Owned (slice_set slots wire c) (tags_after key c ts)
+owned-visited wire key slots ts (slot.Ended e) owned at is =
+    owned-out wire key slots ts (slot.Ended e) owned at (has_wire-without ts key wire owned.single at)
+owned-visited wire key slots ts (slot.Asleep s) owned at is =
     let B : ℕ → Type 0 = λ n. are_below n ts ≡ true in
     record {
-      each = own-set 0 wire wire slots ts ts (slot.Asleep s) (omega arith) (λ w d ne is. is) (ap (tag_at ts) stays.at ∙ at) owned.each;
+      each = own-set 0 wire wire slots ts ts (slot.Asleep s) (omega arith) (λ w d ne own. own) (ap (tag_at ts) is ∙ at)
+          owned.each;
       below = subst B (sym (length-set slots wire (slot.Asleep s))) owned.below;
       single = owned.single;
     }
-owned-visited wire key slots ts b calls o held h slot.Refused owned at stays = absurd stays
+owned-visited wire key slots ts slot.Refused owned at is = absurd is
 
-pub owned-stays : (wire key : ℕ) (r0 r1 : Option (List Event)) (old new : Core) (b : Opening) (slots : List Slot)
+pub owned-stays : (wire key : ℕ) (r0 r1 : Option (List Event)) (old new : Core) (slots : List Slot)
     (c : Slot) → Owned slots (tags old.sources) → tag_at (tags old.sources) key ≡ Some wire →
-    MakesRegisteredVisit wire key r0 r1 old new b c → Owned (slice_set slots wire c) (tags new.sources)
-owned-stays wire key r0 r1 old new b slots c owned at (h, h', calls, o, x) =
+    VisitDoes key r0 r1 old new c → Owned (slice_set slots wire c) (tags new.sources)
+owned-stays wire key r0 r1 old new slots c owned at x =
     let P : Tags → Type 0 = λ ts. Owned (slice_set slots wire c) ts in
-    subst P (sym x.tags) (owned-visited wire key slots (tags old.sources) b calls o (map shown new.sources) h' c owned at x.stays)
+    subst P (sym x.tags) (owned-visited wire key slots (tags old.sources) c owned at x.at)
 
 other-wires : (wire key : ℕ) (ts : Tags) (c : Slot) → tag_at ts key ≡ Some wire → (w : ℕ) → w ≢ wire → has_wire w (tags_after key c ts) ≡ has_wire w ts
 other-wires wire key ts (slot.Ended e) at w ne = other_wire-without ts key wire w at ne
 other-wires wire key ts (slot.Asleep s) at w ne = refl
 other-wires wire key ts slot.Refused at w ne = refl
 
-pub others-stay : (wire key : ℕ) (r0 r1 : Option (List Event)) (old new : Core) (b : Opening) (c : Slot) → tag_at (tags old.sources) key ≡ Some wire → MakesRegisteredVisit wire key r0 r1 old new b c →
+pub others-stay : (wire key : ℕ) (r0 r1 : Option (List Event)) (old new : Core) (c : Slot) →
+    tag_at (tags old.sources) key ≡ Some wire → VisitDoes key r0 r1 old new c →
     (w : ℕ) → w ≢ wire → has_wire w (tags new.sources) ≡ has_wire w (tags old.sources)
-others-stay wire key r0 r1 old new b c at (h, h', calls, o, x) = λ w ne. ap (has_wire w) x.tags ∙ other-wires wire key (tags old.sources) c at w ne
-
-stays-open : (wire key : ℕ) (b : Opening) (calls : List Event) (o : Option (List Event)) (held : List Held) (h : Held)
-    (c : Slot) → RegisteredVisitEnds wire key b calls o held h c → is_open_slot c ≡ true
-stays-open wire key b calls o held h (slot.Ended e) stays = refl
-stays-open wire key b calls o held h (slot.Asleep s) stays = ap not stays.open_
-stays-open wire key b calls o held h slot.Refused stays = refl
+others-stay wire key r0 r1 old new c at x = λ w ne. ap (has_wire w) x.tags ∙ other-wires wire key (tags old.sources) c at w ne
 
 -- ---- after a first visit
 
@@ -237,25 +232,21 @@ owned-none slots ts none empty =
     let Q : Tags → Type 0 = λ x. Owned [] x in
     subst P (sym none) (subst Q (sym empty) (record { each = tt; below = refl; single = tt }))
 
-pub open-stays : (wire key : ℕ) (r0 r1 : Option (List Event)) (old new : Core) (b : Opening) (c : Slot) → MakesRegisteredVisit wire key r0 r1 old new b c → is_open_slot c ≡ true
-open-stays wire key r0 r1 old new b c (h, h', calls, o, x) = stays-open wire key b calls o _ h' c x.stays
-
-registers-open : (s : Session) (wire : ℕ) (wired : Opened) (r0 r1 : Option (List Event)) (old new : Core) (c : Slot) → Registers s wire wired r0 r1 old new c → is_open_slot c ≡ true
-registers-open s wire wired r0 r1 old new c (talk, client, key, mid, x) = open-stays wire key _ r1 mid new client c x.stays
-
-pub first-open : (s : Session) (wire : ℕ) (r0 r1 : Option (List Event)) (old new : Core) (c : Slot) → FirstVisits s wire r0 r1 old new c → is_open_slot c ≡ true
+pub first-open : (s : Session) (wire : ℕ) (r0 r1 : Option (List Event)) (old new : Core) (c : Slot) →
+    FirstVisits s wire r0 r1 old new c → is_open_slot c ≡ true
 first-open s wire r0 r1 old new c (undialled dials failure e to awake still is says) = ap is_open_slot is
-first-open s wire r0 r1 old new c (dialled dials wired mid to x) = registers-open s wire wired mid r1 old new c x
+first-open s wire r0 r1 old new c (dialled dials wired mid to (talk, client, key, begun, x)) =
+    (visit-does wire key _ _ r1 begun new client c x.visits).open_
 
 -- ---- what was told, whatever came of it
 
 pub told-none : (r : Option (List Event)) (core : Core) → core.hands ≡ None → Told r r core core []
-told-none r core idle = record { gained = told-nothing r; made = refl; closed = idle; ticker = omega arith }
+told-none r core idle = record { gained = told-nothing r; made = omega arith; closed = idle; ticker = omega arith }
 
 pub told-more : (r0 r1 r2 : Option (List Event)) (old mid new : Core) (a b : List Event) → Told r0 r1 old mid a → Told r1 r2 mid new b → Told r0 r2 old new (a ++ b)
 told-more r0 r1 r2 old mid new a b x y = record {
   gained = y.gained ∙ (ap (λ r. told r b) x.gained ∙ told-told r0 a b);
-  made = y.made ∙ x.made;
+  made = omega (arith, notices_in-append a b, x.made, y.made);
   closed = y.closed;
   ticker = omega (arith, waits_in-append a b, x.ticker, y.ticker);
 }
@@ -269,18 +260,12 @@ grown-both r0 r1 r2 a x (b, y) = (a ++ b, y ∙ (ap (λ r. told r b) x ∙ told-
 refused-more : (e : OpenError) (r0 r1 r2 : Option (List Event)) (old mid new : Core) (a : List Event) → Told r0 r1 old mid a → RefusedAt e r1 r2 mid new → RefusedAt e r0 r2 old new
 refused-more open_err.OutOfMemory r0 r1 r2 old mid new a x (closed, grown) = (closed, grown-both r0 r1 r2 a x.gained grown)
 refused-more open_err.Poller r0 r1 r2 old mid new a x y = told-both r0 r1 r2 old mid new (a, x) y
-refused-more (open_err.Exhausted counter value) r0 r1 r2 old mid new a x (is, at, last, y) = (is, at, last, told-both r0 r1 r2 old mid new (a, x) y)
+refused-more (open_err.Exhausted counter value) r0 r1 r2 old mid new a x (is, last, y) = (is, last, told-both r0 r1 r2 old mid new (a, x) y)
 
 pub refuses-more : {T : Type 0} (result : Result T OpenError) (r0 r1 r2 : Option (List Event)) (old mid new : Core) →
     (a : List Event) × Told r0 r1 old mid a → Refuses result r1 r2 mid new → Refuses result r0 r2 old new
 refuses-more (Ok v) r0 r1 r2 old mid new x y = tt
 refuses-more (Err e) r0 r1 r2 old mid new (a, x) y = refused-more e r0 r1 r2 old mid new a x y
-
-pub stays-told : (wire key : ℕ) (r0 r1 : Option (List Event)) (old new : Core) (b : Opening) (c : Slot) → MakesRegisteredVisit wire key r0 r1 old new b c → (m : List Event) × Told r0 r1 old new m
-stays-told wire key r0 r1 old new b c (h, h', calls, o, x) = (
-  calls ++ tail_of wire key o c,
-  record { gained = x.gained; made = x.made; closed = x.rests.idle; ticker = omega (arith, x.ticker, x.waits) },
-)
 
 -- ---- the wires that are still to be visited
 
@@ -316,9 +301,9 @@ wire-below w n wires rest slots ts next have owned len =
 pub goes-next : (w : ℕ) (all wires rest : List ℕ) (r0 r1 r2 : Option (List Event)) (old mid new : Core)
     (slots slots' slots'' : List Slot) → wires ≡ w ∷ rest → VisitsKeepCall all wires r0 r1 old mid slots slots' →
     ((pending : List ℕ) → VisitsKeepCall (w ∷ pending) pending r1 r2 mid new slots' slots'') → VisitsKeepCall all rest r0 r2 old new slots slots''
-goes-next w all wires rest r0 r1 r2 old mid new slots slots' slots'' next goes visits = λ sessions rounds n begin before built went.
+goes-next w all wires rest r0 r1 r2 old mid new slots slots' slots'' next goes visits = λ sessions rounds n begin before went.
     let W : List ℕ → Type 0 = λ x. CallStandsAfter sessions rounds x n begin before r1 mid slots' in
-    visits rest sessions rounds n begin before built (subst W next (goes sessions rounds n begin before built went))
+    visits rest sessions rounds n begin before (subst W next (goes sessions rounds n begin before went))
 
 pub goes-all : (all wires : List ℕ) (r0 r1 : Option (List Event)) (old new : Core) (slots slots' : List Slot) →
     wires ≡ [] → VisitsKeepCall all wires r0 r1 old new slots slots' →

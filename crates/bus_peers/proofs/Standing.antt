@@ -1,7 +1,7 @@
 -- Where the sessions stand: one that is not visited stands where it stood, and all of them rest.
 use Rattle.std.proofs.Common.{◌≡◌, ◌≢◌, ◌≤◌, ◌<◌, ◌⊎◌, inl, inr, ℕ, ◌+◌, zero, suc, Bool, true, false, not, ◌||◌}
 use Rattle.std.proofs.Common.{◌==◌, if◌then◌else◌, List, [], ◌∷◌, ◌++◌, length, take, Some, None, is_some, slice_get}
-use Rattle.std.proofs.Common.{slice_set, refl, sym, ◌∙◌, ap, subst, arith}
+use Rattle.std.proofs.Common.{Option, slice_set, refl, sym, ◌∙◌, ap, subst, arith}
 use Rattle.std.specs.List.{list_all}
 use Rattle.std.proofs.lemmas.Bool.{both_ways, or_left, or_right, and_from, and_parts}
 use Rattle.std.proofs.lemmas.Option.{none-some, same_Some}
@@ -10,19 +10,20 @@ use Rattle.bus_session.specs.declared.session.Session.{Session}
 use Rattle.bus_session.specs.declared.ended.Ended.{Ended}
 use Rattle.bus_session.specs.Parts.{part}
 use Rattle.bus_session.specs.Outcomes.{is_ended}
-use Rattle.bus_session.specs.Sessions.{is_built}
 use Rattle.bus_session.specs.Alone.{alone, course}
 use Rattle.bus_record.specs.Pieces as pieces
 use Rattle.bus_record.specs.Pieces.{Pieces, nothing, ◌▸◌, visit, round}
-use Rattle.bus_record.specs.Places.{key_of, waits, paused, moment, is_early, stays_armed, sleeps, sleeps_in, has_ended}
+use Rattle.bus_record.specs.Places.{key_of, waits, paused, moment, notified, is_early, stays_armed, sleeps, sleeps_in}
+use Rattle.bus_record.specs.Places.{has_ended}
 use Rattle.bus_record.specs.Settled.{AllRest, numbered, comes_to}
 use Rattle.bus_visit.specs.declared.visiting.Slot.{Slot}
 use Rattle.bus_visit.specs.declared.visiting.Slot.TheVariants as slot
+use Rattle.bus_visit.specs.declared.visiting.Sleeper.{Sleeper}
 use Rattle.bus_peers.specs.inside.Due.{is_in}
 use Rattle.bus_visit.specs.Registry.{Held}
 use Rattle.bus_peers.specs.inside.Shows.{Shows}
-use Rattle.bus_peers.specs.inside.Slots.{Paused, Stands, AllStand, AllBuilt}
-use Rattle.bus_peers.proofs.VisitsInRecord.{awake-ends, built-late}
+use Rattle.bus_peers.specs.inside.Slots.{Paused, Stands, AllStand}
+use Rattle.bus_peers.proofs.VisitsInRecord.{awake-ends}
 
 -- ---- a session that is not visited
 
@@ -31,6 +32,7 @@ pub record Still (wire : ℕ) (before after : Pieces) : Type 0 where
   pub key : key_of wire after ≡ key_of wire before
   pub paused : paused wire after ≡ paused wire before
   pub moment : moment wire after ≡ moment wire before
+  pub notified : notified wire after ≡ notified wire before
   pub own : part wire (pieces.told after) ≡ part wire (pieces.told before)
 
 -- a direction that waits still does, or its session is to be visited
@@ -38,20 +40,30 @@ abbrev pub WaitsOn : ℕ → List ℕ → List ℕ → Pieces → Pieces → Typ
 WaitsOn wire pending pending' before after =
     (dir : Dir) → (waits dir wire before ≡ true) ⊎ (is_in wire pending ≡ true) → (waits dir wire after ≡ true) ⊎ (is_in wire pending' ≡ true)
 
+-- no reading has reached its deadline, or its session is to be visited
+abbrev pub EarlyOn : Option ℕ → ℕ → List ℕ → List ℕ → Pieces → Pieces → Type 0
+EarlyOn deadline wire pending pending' before after =
+    (is_early deadline wire before ≡ true) ⊎ (is_in wire pending ≡ true) →
+    (is_early deadline wire after ≡ true) ⊎ (is_in wire pending' ≡ true)
+
 comes-still : (s : Session) (wire : ℕ) (before after : Pieces) → Still wire before after → comes_to s wire after ≡ comes_to s wire before
 comes-still s wire before after still =
     ap (λ x. alone s x (moment wire after)) still.own ∙ ap (λ m. alone s (part wire (pieces.told before)) m) still.moment
 
 pub stands-move : (s : Session) (wire : ℕ) (pending pending' : List ℕ) (before after : Pieces) (c : Slot) → Still wire before after → WaitsOn wire pending pending' before after →
+    ((sl : Sleeper) → c ≡ slot.Asleep sl → EarlyOn s.deadline wire pending pending' before after) →
     Stands s wire pending before c → Stands s wire pending' after c
-stands-move s wire pending pending' before after (slot.Ended e) still moves is = record {
+stands-move s wire pending pending' before after (slot.Ended e) still moves early is = record {
   comes = record { on = is.comes.on; at = is.comes.at ∙ sym still.moment; comes = comes-still s wire before after still ∙ is.comes.comes };
   awake = is.awake;
   gone = still.key ∙ is.gone;
 }
-stands-move s wire pending pending' before after (slot.Asleep c) still moves is = record {
+stands-move s wire pending pending' before after (slot.Asleep c) still moves early is = record {
   open_ = is.open_;
-  unread = still.moment ∙ is.unread;
+  read = still.moment ∙ is.read;
+  limited = is.limited;
+  early = is.early;
+  notified = still.notified ∙ is.notified;
   comes = comes-still s wire before after still ∙ is.comes;
   talking = record {
     talk = is.talking.talk;
@@ -65,9 +77,10 @@ stands-move s wire pending pending' before after (slot.Asleep c) still moves is 
     dir = is.paused.dir;
     last = still.paused ∙ is.paused.last;
     waits_or_due = moves is.paused.dir is.paused.waits_or_due;
+    early_or_due = early c refl is.paused.early_or_due;
   };
 }
-stands-move s wire pending pending' before after slot.Refused still moves is = absurd is
+stands-move s wire pending pending' before after slot.Refused still moves early is = absurd is
 
 -- ---- all sessions, one of them, and one more
 
@@ -104,6 +117,44 @@ stand-move n pending pending' (s ∷ sessions) (c ∷ slots) past past' moves al
     (moves s n c (omega arith) (omega arith) all.0, stand-move (n + 1) pending pending' sessions slots past past' (λ t w d low high. moves t w d (omega (arith, low)) (omega (arith, high))) all.1)
 stand-move n pending pending' [] (c ∷ slots) past past' moves all = all
 stand-move n pending pending' (s ∷ sessions) [] past past' moves all = all
+
+-- the same, by their places
+pub stand-move-at : (n : ℕ) (pending pending' : List ℕ) (sessions : List Session) (slots : List Slot)
+    (past past' : Pieces) → ((s : Session) (i w : ℕ) (c : Slot) → w ≡ n + i → slice_get sessions i ≡ Some s →
+    slice_get slots i ≡ Some c → Stands s w pending past c → Stands s w pending' past' c) →
+    AllStand n pending sessions slots past → AllStand n pending' sessions slots past'
+stand-move-at n pending pending' [] [] past past' moves all = tt
+stand-move-at n pending pending' (s ∷ sessions) (c ∷ slots) past past' moves all = (
+  moves s 0 n c (omega arith) refl refl all.0,
+  stand-move-at (n + 1) pending pending' sessions slots past past'
+      (λ t i w d here at at'. moves t (suc i) w d (omega (arith, here)) at at') all.1,
+)
+stand-move-at n pending pending' [] (c ∷ slots) past past' moves all = all
+stand-move-at n pending pending' (s ∷ sessions) [] past past' moves all = all
+
+-- the slot of a session
+pub stand-there : (n i w : ℕ) (pending : List ℕ) (sessions : List Session) (slots : List Slot) (past : Pieces)
+    (s : Session) → w ≡ n + i → slice_get sessions i ≡ Some s → AllStand n pending sessions slots past →
+    (c : Slot) × (slice_get slots i ≡ Some c) × Stands s w pending past c
+stand-there n i w pending [] slots past s here at all = absurd (none-some s at)
+stand-there n i w pending (t ∷ sessions) [] past s here at all = absurd all
+stand-there n zero w pending (t ∷ sessions) (d ∷ slots) past s here at all =
+    let place : n ≡ w = omega (arith, here) in
+    let P : Session → Type 0 = λ x. Stands x n pending past d in
+    let Q : ℕ → Type 0 = λ k. Stands s k pending past d in
+    (d, refl, subst Q place (subst P (same_Some t s at) all.0))
+stand-there n (suc i) w pending (t ∷ sessions) (d ∷ slots) past s here at all =
+    stand-there (n + 1) i w pending sessions slots past s (omega (arith, here)) at all.1
+
+-- where there is no session there is no slot
+pub none-there : (n i : ℕ) (pending : List ℕ) (sessions : List Session) (slots : List Slot) (past : Pieces) →
+    slice_get sessions i ≡ None → AllStand n pending sessions slots past → slice_get slots i ≡ None
+none-there n i pending [] [] past none all = refl
+none-there n i pending [] (c ∷ slots) past none all = absurd all
+none-there n i pending (s ∷ sessions) [] past none all = absurd all
+none-there n zero pending (s ∷ sessions) (c ∷ slots) past none all = absurd (none-some s (sym none))
+none-there n (suc i) pending (s ∷ sessions) (c ∷ slots) past none all =
+    none-there (n + 1) i pending sessions slots past none all.1
 
 pub stand-set : (n i w : ℕ) (pending pending' : List ℕ) (sessions : List Session) (slots : List Slot) (past past' : Pieces) (s : Session) (c : Slot) → w ≡ n + i → slice_get sessions i ≡ Some s →
     ((t : Session) (v : ℕ) (d : Slot) → v ≢ w → Stands t v pending past d → Stands t v pending' past' d) →
@@ -151,16 +202,6 @@ whole (x ∷ xs) [] len = absurd (omega (arith, len))
 
 -- ---- all rest
 
--- where there is no deadline no reading reaches it
-if-both : (b x y : Bool) → x ≡ true → y ≡ true → (if b then x else y) ≡ true
-if-both true x y is so = is
-if-both false x y is so = so
-
-early-at : (wire : ℕ) (past : Pieces) → is_early None wire past ≡ true
-early-at wire nothing = refl
-early-at wire (past ▸ visit w events) = if-both (w == wire) true (is_early None wire past) refl (early-at wire past)
-early-at wire (past ▸ round r) = early-at wire past
-
 waits-now : (w : ℕ) (b : Bool) → (b ≡ true) ⊎ (is_in w [] ≡ true) → b ≡ true
 waits-now w b (inl up) = up
 waits-now w b (inr due) = absurd (both_ways (is_in w []) refl due)
@@ -170,9 +211,9 @@ pub ended-now : (s : Session) (w : ℕ) (past : Pieces) (e : Ended) → Stands s
 ended-now s w past e is = ap is_ended is.comes.comes ∙ ap not (awake-ends e.ending is.awake)
 
 -- it sleeps
-pub sleeps-now : (s : Session) (w : ℕ) (past : Pieces) (sources : List Held) (c : _) → is_built s ≡ true → Shows past sources → Stands s w [] past (slot.Asleep c) → sleeps s w past ≡ true
-sleeps-now s w past sources c built shows is =
-    let p : Paused w past c.key [] = is.paused in
+pub sleeps-now : (s : Session) (w : ℕ) (past : Pieces) (sources : List Held) (c : _) → Shows past sources → Stands s w [] past (slot.Asleep c) → sleeps s w past ≡ true
+sleeps-now s w past sources c shows is =
+    let p : Paused w s.deadline past c.key [] = is.paused in
     let here = shows.keyed w c.key p.registered in
     let source = shows.each c.key here.0 here.1 in
     let up : waits p.dir w past ≡ true = waits-now w (waits p.dir w past) p.waits_or_due in
@@ -181,23 +222,25 @@ sleeps-now s w past sources c built shows is =
     ap (sleeps_in s w past) p.last
     ∙ and_from (waits p.dir w past) _ up
     (and_from (stays_armed p.dir w past) _ armed
-    (and_from (is_some (key_of w past)) _ (ap is_some p.registered) (ap (λ d. is_early d w past) (built-late s built) ∙ early-at w past)))
+    (and_from (is_some (key_of w past)) _ (ap is_some p.registered)
+    (waits-now w (is_early s.deadline w past) p.early_or_due)))
 
-rest-of : (s : Session) (w : ℕ) (past : Pieces) (sources : List Held) (c : Slot) → is_built s ≡ true → Shows past sources → Stands s w [] past c → (has_ended s w past || sleeps s w past) ≡ true
-rest-of s w past sources (slot.Ended e) built shows is = or_left (has_ended s w past) (sleeps s w past) (ended-now s w past e is)
-rest-of s w past sources (slot.Asleep c) built shows is = or_right (has_ended s w past) (sleeps s w past) (sleeps-now s w past sources c built shows is)
-rest-of s w past sources slot.Refused built shows is = absurd is
+rest-of : (s : Session) (w : ℕ) (past : Pieces) (sources : List Held) (c : Slot) → Shows past sources → Stands s w [] past c →
+    (has_ended s w past || sleeps s w past) ≡ true
+rest-of s w past sources (slot.Ended e) shows is = or_left (has_ended s w past) (sleeps s w past) (ended-now s w past e is)
+rest-of s w past sources (slot.Asleep c) shows is = or_right (has_ended s w past) (sleeps s w past) (sleeps-now s w past sources c shows is)
+rest-of s w past sources slot.Refused shows is = absurd is
 
-rest-all : (n : ℕ) (sessions : List Session) (slots : List Slot) (past : Pieces) (sources : List Held) → AllBuilt sessions → Shows past sources → AllStand n [] sessions slots past →
+rest-all : (n : ℕ) (sessions : List Session) (slots : List Slot) (past : Pieces) (sources : List Held) → Shows past sources → AllStand n [] sessions slots past →
     list_all (λ m. has_ended m.session m.wire past || sleeps m.session m.wire past) (numbered n sessions) ≡ true
-rest-all n [] [] past sources built shows all = refl
-rest-all n (s ∷ sessions) (c ∷ slots) past sources built shows all =
-    let b = and_parts (is_built s) (list_all is_built sessions) built in
-    and_from (has_ended s n past || sleeps s n past) _ (rest-of s n past sources c b.0 shows all.0) (rest-all (n + 1) sessions slots past sources b.1 shows all.1)
-rest-all n [] (c ∷ slots) past sources built shows all = absurd all
-rest-all n (s ∷ sessions) [] past sources built shows all = absurd all
+rest-all n [] [] past sources shows all = refl
+rest-all n (s ∷ sessions) (c ∷ slots) past sources shows all =
+    and_from (has_ended s n past || sleeps s n past) _ (rest-of s n past sources c shows all.0)
+    (rest-all (n + 1) sessions slots past sources shows all.1)
+rest-all n [] (c ∷ slots) past sources shows all = absurd all
+rest-all n (s ∷ sessions) [] past sources shows all = absurd all
 
-pub all-rest : (sessions : List Session) (slots : List Slot) (past : Pieces) (sources : List Held) → length slots ≡ length sessions → AllBuilt sessions → Shows past sources →
+pub all-rest : (sessions : List Session) (slots : List Slot) (past : Pieces) (sources : List Held) → length slots ≡ length sessions → Shows past sources →
     AllStand 0 [] (take (length slots) sessions) slots past → AllRest sessions past
-all-rest sessions slots past sources len built shows all =
-    let A : List Session → Type 0 = λ x. AllStand 0 [] x slots past in rest-all 0 sessions slots past sources built shows (subst A (whole sessions slots len) all)
+all-rest sessions slots past sources len shows all =
+    let A : List Session → Type 0 = λ x. AllStand 0 [] x slots past in rest-all 0 sessions slots past sources shows (subst A (whole sessions slots len) all)

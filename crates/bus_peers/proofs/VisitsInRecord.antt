@@ -1,6 +1,7 @@
 -- What a visit over the reactor comes to, in the record.
 use Rattle.std.proofs.Common.{◌≡◌, ◌≢◌, ℕ, ◌+◌, ◌<◌, Bool, true, false, not, ◌||◌, nat_lt, if◌then◌else◌, List, []}
 use Rattle.std.proofs.Common.{◌∷◌, ◌++◌, map, length, Option, Some, None, is_some, is_none, refl, sym, ◌∙◌, ap, subst}
+use Rattle.bus_session.specs.Counts.{notices_in}
 use Rattle.std.proofs.Common.{inl, arith}
 use Rattle.std.specs.Prelude.{count_by, sum_by}
 use Rattle.std.specs.Option.{option_map, option_and_then}
@@ -26,7 +27,6 @@ use Rattle.bus_session.specs.declared.ended.Ended.{Ended}
 use Rattle.bus_session.specs.declared.session.Session.{Session}
 use Rattle.bus_session.specs.declared.session.Party.{Party}
 use Rattle.bus_session.specs.declared.session.Party.TheVariants as party
-use Rattle.bus_session.specs.Sessions.{is_built}
 use Rattle.bus_address.specs.Reading.{address as address_of}
 use Rattle.bus_session.specs.Dialling.{Dialling, Opened, asks as dial_asks, fails, opens, dialled, conversation}
 use Rattle.bus_session.specs.Dialling as dialling
@@ -36,34 +36,37 @@ use Rattle.bus_session.specs.Alone.{Course, course, first_course, converses, sil
 use Rattle.bus_record.specs.Pieces as pieces
 use Rattle.bus_record.specs.Pieces.{Pieces, ◌▸◌, visit, is_modify}
 use Rattle.bus_record.specs.Places.{key_of, key_by, key_through, waits, waits_by, waits_through, paused, last_stop, last_stop_by}
-use Rattle.bus_record.specs.Places.{moment, last_reading, last_reading_by}
-use Rattle.bus_record.specs.Visits.{Here, here, Visit}
+use Rattle.bus_record.specs.Places.{moment, last_reading, last_reading_by, notified, notified_by, notified_through}
+use Rattle.bus_record.specs.Visits.{Here, here, Stage, reading, finished, Visit}
 use Rattle.bus_record.specs.Settled.{comes_to}
 use Rattle.bus_visit.specs.declared.visiting.Slot.{Slot}
 use Rattle.bus_visit.specs.declared.visiting.Slot.TheVariants as slot
 use Rattle.bus_visit.specs.declared.visiting.Sleeper.{Sleeper}
 use Rattle.bus_visit.specs.Calls.{AreCalls}
-use Rattle.bus_visit.specs.Counts.{after_begun}
+use Rattle.bus_visit.specs.Counts.{after_begun, numbered_in}
 use Rattle.bus_visit.specs.Registry.{Held, Idle, Waits, Reported, waits as held_waits, side_held, stopped_held, held_at, with_held, idle, registry}
 use Rattle.bus_visit.specs.Asking.{Asking, asks, asking_at, begins, arms_at}
 use Rattle.bus_peers.specs.inside.Shows.{StandsAt, Shows}
 use Rattle.bus_peers.specs.inside.RegisteredVisits.{FirstDials, opened_course, Converses, Concludes, LeavesAsleep}
 use Rattle.bus_visit.specs.Shown.{IsBetweenCalls, shown}
-use Rattle.bus_peers.specs.inside.Slots.{IsNew, Stands, VisitInRecord}
+use Rattle.bus_peers.specs.inside.Slots.{IsNew, Stands, Talking, VisitInRecord}
+use Rattle.bus_peers.specs.inside.Laws.{ComesTo}
 use Rattle.bus_visit.specs.Dialled.{Answered, dials_of, dials_through, opening, DialsTo}
 use Rattle.bus_visit.specs.Visited as visited
 use Rattle.bus_visit.specs.Conversed.{is_awake, stands_at, Pauses}
 use Rattle.bus_visit.specs.Noted.{arms_told}
-use Rattle.bus_visit.specs.Visited.{MakesRegisteredVisit, RegisteredVisit, FirstVisits}
-use Rattle.bus_visit.specs.laws.Records.{part-append, goes-append, part-own, part-other}
+use Rattle.bus_visit.specs.Visited.{MakesRegisteredVisit, RegisteredVisit}
+use Rattle.bus_visit.specs.laws.Records.{part-append, goes-append, part-own, part-other, unnumbered-waits, unnumbered-notices}
 use Rattle.bus_peers.proofs.Sides.{side-waits}
 use Rattle.bus_peers.proofs.HeldLists.{with-at}
 use Rattle.bus_visit.specs.laws.Interests.{begun-still}
 use Rattle.bus_peers.proofs.OtherWires.{unvisited}
-use Rattle.bus_visit.specs.laws.Dials.{dials-still, opening-fold, opening-sources, opening-waits, opening-part, opening-other}
-use Rattle.bus_visit.specs.laws.Dials.{dials-waits, dials-part, dials-other}
+use Rattle.bus_visit.specs.laws.Dials.{dials-still, opening-fold, opening-sources, opening-unnumbered, opening-part, opening-other}
+use Rattle.bus_visit.specs.laws.Dials.{dials-unnumbered, dials-part, dials-other}
 use Rattle.bus_peers.specs.inside.Shows.{ShowsAsleep}
 use Rattle.bus_peers.proofs.StayShows.{failed-dial-shows, first-asleep-shows, first-over-shows, later-asleep-shows, later-over-shows}
+use Rattle.bus_peers.proofs.Readings.{calls-notified}
+use Rattle.bus_peers.proofs.StayVisits.{rests_at}
 use Rattle.bus_peers.proofs.WholeVisits.{registered_at, stands-idle, first-visits-fail, first-visits-sleep, first-visits-end, later-visits-sleep, later-visits-end, stays-leave-places}
 
 -- ---- what the events of a visit leave as it was
@@ -118,13 +121,14 @@ record IsArming (o : Option (List Event)) : Type 0 where
   counted : count_by is_modify (arms_told o) ≡ length (arms_told o)
   unread : (last : Option ℕ) → last_reading last (arms_told o) ≡ last
   keyless : (key : Option ℕ) → key_through key (arms_told o) ≡ key
+  unnoticed : (was : Bool) → notified_through was (arms_told o) ≡ was
 
 one-arming : (c : Bool) (wire key : ℕ) (read write : Bool) → IsArming (Some (if c then event.Modify wire key read write true ∷ [] else []))
-one-arming true wire key read write = record { counted = refl; unread = λ last. refl; keyless = λ k. refl }
-one-arming false wire key read write = record { counted = refl; unread = λ last. refl; keyless = λ k. refl }
+one-arming true wire key read write = record { counted = refl; unread = λ last. refl; keyless = λ k. refl; unnoticed = λ was. refl }
+one-arming false wire key read write = record { counted = refl; unread = λ last. refl; keyless = λ k. refl; unnoticed = λ was. refl }
 
 no-arming : IsArming None
-no-arming = record { counted = refl; unread = λ last. refl; keyless = λ k. refl }
+no-arming = record { counted = refl; unread = λ last. refl; keyless = λ k. refl; unnoticed = λ was. refl }
 
 arms-arming : (dir : Dir) (h : Held) (b : _) → IsArming (arms_at dir h b)
 arms-arming dir h Idle =
@@ -181,9 +185,6 @@ pub course-more : (s : Session) (a b : List Event) → course s (a ++ b) ≡ goe
 unfolding course
 course-more s a b = goes-append (Some (first_course s)) a b
 
-none-reached : (deadline moment : Option ℕ) → deadline ≡ None → has_reached deadline moment ≡ false
-none-reached deadline moment none = rw none refl
-
 -- what the session comes to behind a visit in which it goes on so
 comes-after : (s : Session) (wire : ℕ) (past : Pieces) (v : List Event) (c d : Course) (own : List Event) (o : Outcome) →
     course s (part wire (pieces.told past)) ≡ Some c → part wire v ≡ own → goes_through (Some c) own ≡ Some d →
@@ -199,6 +200,10 @@ pub course-after : (s : Session) (wire : ℕ) (past : Pieces) (v : List Event) (
 course-after s wire past v c d own came mine goes =
     ap (course s) (part-append wire (pieces.told past) v ∙ ap (λ x. part wire (pieces.told past) ++ x) mine)
     ∙ (course-more s (part wire (pieces.told past)) own ∙ (ap (λ x. goes_through x own) came ∙ goes))
+
+-- no timer was made
+made-none : (old new : Core) (v : List Event) → new.made ≡ old.made → numbered_in v ≡ 0 → new.made ≡ old.made + notices_in v
+made-none old new v same none = omega (arith, same, unnumbered-notices v none)
 
 -- ---- places behind a visit of the wire
 
@@ -234,8 +239,45 @@ some-arms (Some arm) is = (arm, refl)
 pub ended-out : (late : Bool) (d : Course) (e : Ended) → is_awake e.ending ≡ true → outcome_of late d ≡ Some (outcome e) → is_ended (outcome_in late d.progress) ≡ true
 ended-out late d e awake is = ap is_ended is ∙ ap not (awake-ends e.ending awake)
 
+-- a visit over a registered wire ends with a session that has ended, or comes to its look at the clock
+abbrev pub IsReading : Session → ℕ → Slot → Stage → Type 0
+IsReading s key (slot.Ended e) stage = stage ≡ finished
+IsReading s key (slot.Asleep c) stage = (end : Course) × (stage ≡ rests_at s key end)
+IsReading s key slot.Refused stage = ⊥
+
+-- what a session comes to whose conversation waits for its wire
+abbrev pub waits_so : Opening → Outcome
+waits_so c = record { ending = ending.Waiting; written = c.written; leftover = c.rest }
+
+-- A visit up to its look at the clock, behind which the session waits for its wire.
+pub record WaitsInRecord (s : Session) (wire key : ℕ) (past : Pieces) (before after : Option (List Event))
+    (old mid : Core) (c : Sleeper) (v : List Event) : Type 0 where
+  pub gained : after ≡ told before v
+  pub end : Course
+  pub comes : ComesTo s wire past v (rests_at s key end)
+  pub held : Held
+  pub shows : ShowsAsleep (past ▸ visit wire v) (map shown mid.sources) wire key held
+  pub others : (w : ℕ) → w ≢ wire → part w v ≡ []
+  pub rests : IsBetweenCalls mid
+  pub ticker : mid.ticker ≡ old.ticker
+  pub made : mid.made ≡ old.made
+  pub begun : mid.begun ≡ after_begun old.begun (count_by is_modify v)
+  pub unnumbered : numbered_in v ≡ 0
+  pub at : c.key ≡ key
+  pub open_ : c.client.ended ≡ false
+  pub untimed : c.alarm ≡ None
+  pub unread : last_reading None v ≡ None
+  pub unnoticed : notified_through (notified wire past) v ≡ notified wire past
+  pub registered : key_of wire (past ▸ visit wire v) ≡ Some key
+  pub talking : Talking s wire (past ▸ visit wire v) c.client
+  pub waiting : outcome_of false (stands_at s.party talking.talk talking.got c.client (Some talking.dir)) ≡
+      Some (waits_so c.client)
+  pub dir : Dir
+  pub last : paused wire (past ▸ visit wire v) ≡ Some dir
+  pub up : waits dir wire (past ▸ visit wire v) ≡ true
+
 module _ (s : Session) (wire key : ℕ) (past : Pieces) (r0 r1 : Option (List Event)) (old new : Core) (c : Opening) (talk : List (List ℕ) → Said) (b : List ℕ) (paused-so : Option Dir)
-    (built : s.deadline ≡ None) (shows : Shows past (map shown old.sources)) (stands : StandsIn talk b c)
+    (shows : Shows past (map shown old.sources)) (stands : StandsIn talk b c)
     (came : course s (part wire (pieces.told past)) ≡ Some (stands_at s.party talk b c paused-so))
     (open_ : is_ended (outcome_in false (stands_at s.party talk b c paused-so).progress) ≡ false) where
   again-ended : (e : Ended) (h h' : Held) (calls : List Event) (o : Option (List Event)) → RegisteredVisit wire key r0 r1 old new c (slot.Ended e) h h' calls o →
@@ -259,15 +301,15 @@ module _ (s : Session) (wire key : ℕ) (past : Pieces) (r0 r1 : Option (List Ev
       record {
         gained = x.gained;
         visits = subst V source.0
-            (later-visits-end s wire past h h' calls begin d.0 built (ap (λ w. key_of w past) (sym x.wired) ∙ source.1.keyed)
+            (later-visits-end s wire past h h' calls begin d.0 (ap (λ w. key_of w past) (sym x.wired) ∙ source.1.keyed)
             (subst (λ (w : ℕ). StandsAt (here w past) h) x.wired source.1.stands) came conv over);
         shows = subst (λ y. Shows (past ▸ visit wire v) y) x.shows (subst (λ (k : ℕ). G wire k) source.0 (subst (λ (w : ℕ). G w h.key) x.wired g));
         others = λ w other. others-stay wire w calls tail own refl other;
         rests = x.rests;
         ticker = x.ticker;
-        made = x.made;
+        made = made-none old new v x.made x.unnumbered;
         begun = x.begun ∙ ap (after_begun old.begun) (sym (armings-stay wire calls tail own ∙ no-arms o x.stays.over));
-        waits = x.waits;
+        waits = unnumbered-waits v x.unnumbered;
         stands = λ pending. record {
           comes = record {
             on = x.stays.wired;
@@ -281,7 +323,7 @@ module _ (s : Session) (wire key : ℕ) (past : Pieces) (r0 r1 : Option (List Ev
 
   again-asleep : (sl : Sleeper) (h h' : Held) (calls : List Event) (o : Option (List Event)) (b' : List ℕ) → RegisteredVisit wire key r0 r1 old new c (slot.Asleep sl) h h' calls o →
       Pauses talk b c sl.client calls b' → (arm : List Event) → o ≡ Some arm →
-      VisitInRecord s wire past r0 r1 old new (slot.Asleep sl) (calls ++ arms_told o)
+      WaitsInRecord s wire key past r0 r1 old new sl (calls ++ arms_told o)
   again-asleep sl h h' calls o b' x goes arm is =
       let tail : List Event = arms_told o in
       let v : List Event = calls ++ tail in
@@ -298,41 +340,44 @@ module _ (s : Session) (wire key : ℕ) (past : Pieces) (r0 r1 : Option (List Ev
       let G : ℕ → Type 0 = λ w. ShowsAsleep (past ▸ visit w (calls ++ arm)) (registry (map shown old.sources) (calls ++ arm)) w h.key h' in
       let g : G h.wire = later-asleep-shows past (map shown old.sources) h h' calls arm begin end shows (ap (held_at (map shown old.sources)) source.0 ∙ x.was)
       (subst (λ (w : ℕ). Converses w h begin calls h' (Some arm) end) (sym x.wired) conv) in
-      let G' : List Event → Type 0 = λ y. Shows (past ▸ visit wire y) (registry (map shown old.sources) y) in
+      let G' : List Event → Type 0 = λ y. ShowsAsleep (past ▸ visit wire y) (registry (map shown old.sources) y) wire h.key h' in
       let leaves : LeavesAsleep (here wire past) h' v = subst (LeavesAsleep (here wire past) h') told-so (stays-leave-places wire (here wire past) h h' calls arm begin end sides conv) in
       record {
         gained = x.gained;
-        visits = subst (Visit s wire past) told-so (later-visits-sleep s wire past h h' calls arm begin end built keyed x.wired sides came conv);
-        shows = subst (λ y. Shows (past ▸ visit wire v) y) x.shows (subst G' told-so (subst G x.wired g).shows);
+        end = end;
+        comes = subst (λ (k : ℕ). ComesTo s wire past v (rests_at s k end)) source.0
+            (subst (λ y. ComesTo s wire past y (rests_at s h.key end)) told-so
+            (later-visits-sleep s wire past h h' calls arm begin end keyed x.wired sides came conv));
+        held = h';
+        shows = subst (λ y. ShowsAsleep (past ▸ visit wire v) y wire key h') x.shows
+            (subst (λ (k : ℕ). ShowsAsleep (past ▸ visit wire v) (registry (map shown old.sources) v) wire k h') source.0
+            (subst G' told-so (subst G x.wired g)));
         others = λ w other. others-stay wire w calls tail own (x.apart w) other;
         rests = x.rests;
         ticker = x.ticker;
         made = x.made;
         begun = x.begun ∙ ap (after_begun old.begun) (sym (armings-stay wire calls tail own ∙ arming.counted));
-        waits = x.waits;
-        stands = λ pending. record {
-          open_ = x.stays.open_;
-          unread = moment-here wire past v ∙ (calls-reading wire calls tail None own ∙ arming.unread None);
-          comes = comes-after s wire past v begin end calls _ came (own-stay wire calls tail own (x.apart wire)) (goes.through paused-so s.party)
-              (ap (λ late. outcome_of late end) (none-reached s.deadline (moment wire (past ▸ visit wire v)) built) ∙ goes.waiting s.party);
-          talking = record {
-            talk = talk;
-            got = b';
-            dir = goes.dir;
-            stands = goes.stands;
-            through = course-after s wire past v begin end calls came (own-stay wire calls tail own (x.apart wire)) (goes.through paused-so s.party);
-          };
-          paused = record {
-            registered =
-                key-here wire past v ∙
-                (key-append (key_of wire past) calls tail ∙
-                (arming.keyless _ ∙
-                (calls-key wire calls (key_of wire past) own ∙ (keyed ∙ ap Some (source.0 ∙ sym x.stays.at)))));
-            dir = leaves.dir;
-            last = paused-here wire past v ∙ leaves.stop (paused wire past);
-            waits_or_due = inl (waits-here leaves.dir wire past v ∙ (side-waits _ _ (side_held leaves.dir h') (leaves.sides leaves.dir) ∙ leaves.waits));
-          };
+        unnumbered = x.unnumbered;
+        at = x.stays.at;
+        open_ = x.stays.open_;
+        untimed = x.stays.untimed;
+        unread = calls-reading wire calls tail None own ∙ arming.unread None;
+        unnoticed = calls-notified wire calls tail (notified wire past) own ∙ arming.unnoticed (notified wire past);
+        registered =
+            key-here wire past v
+            ∙ (key-append (key_of wire past) calls tail
+            ∙ (arming.keyless _ ∙ (calls-key wire calls (key_of wire past) own ∙ (keyed ∙ ap Some source.0))));
+        talking = record {
+          talk = talk;
+          got = b';
+          dir = goes.dir;
+          stands = goes.stands;
+          through = course-after s wire past v begin end calls came (own-stay wire calls tail own (x.apart wire)) (goes.through paused-so s.party);
         };
+        waiting = goes.waiting s.party;
+        dir = leaves.dir;
+        last = paused-here wire past v ∙ leaves.stop (paused wire past);
+        up = waits-here leaves.dir wire past v ∙ (side-waits _ _ (side_held leaves.dir h') (leaves.sides leaves.dir) ∙ leaves.waits);
       }
 
 -- ---- a session that was not visited before
@@ -370,14 +415,7 @@ course-dialled : (s : Session) (wire : ℕ) (dials : List Answered) (to : Dialli
 unfolding course
 course-dialled s wire dials to comes = course-by s wire (dialling.begins s.party) to dials comes
 
-none-is : {X : Type 0} (o : Option X) → is_none o ≡ true → o ≡ None
-none-is None is = refl
-none-is (Some x) is = absurd (both_ways false refl is)
-
-pub built-late : (s : Session) → is_built s ≡ true → s.deadline ≡ None
-built-late s built = none-is s.deadline built
-
-goes-undialled : (s : Session) (wire : ℕ) (past : Pieces) (r0 r1 : Option (List Event)) (old : Core) (dials : List Answered) (failure : Ending) → IsNew wire past →
+pub goes-undialled : (s : Session) (wire : ℕ) (past : Pieces) (r0 r1 : Option (List Event)) (old : Core) (dials : List Answered) (failure : Ending) → IsNew wire past →
     IsBetweenCalls old → DialsTo wire (dialling.begins s.party) (fails failure) r0 r1 dials → is_awake failure ≡ true →
     Shows past (map shown old.sources) →
     VisitInRecord s wire past r0 r1 old old (slot.Ended (record { ending = failure; written = []; leftover = []; wire = wire; moment = None })) (dials_of wire dials)
@@ -393,9 +431,9 @@ goes-undialled s wire past r0 r1 old dials failure new rests to awake shows =
       others = λ w other. dials-other wire w dials other;
       rests = rests;
       ticker = refl;
-      made = refl;
+      made = made-none old old v refl (dials-unnumbered wire dials);
       begun = begun-still old.begun rests.fits ∙ ap (after_begun old.begun) (sym (dials-armings wire dials));
-      waits = dials-waits wire dials;
+      waits = unnumbered-waits v (dials-unnumbered wire dials);
       stands = λ pending. record {
         comes = record {
           on = refl;
@@ -425,7 +463,7 @@ begins-open (party.Server config) o = refl
 
 module _ (s : Session) (wire key : ℕ) (past : Pieces) (dials : List Answered) (wired : dialling.Opened) (r0 r1 :
     Option (List Event)) (old mid new : Core) (talk : List (List ℕ) → Said) (client : Opening)
-    (built : is_built s ≡ true) (fresh : IsNew wire past) (shows : Shows past (map shown old.sources))
+    (fresh : IsNew wire past) (shows : Shows past (map shown old.sources))
     (through : dials_through (dialling.begins s.party) dials ≡ Some (opens wired))
     (begun : conversation s.party wired ≡ talk) (stands : StandsIn talk [] client) (unwritten : client.written ≡ [])
     (free : held_at (map shown old.sources) key ≡ None) (core : mid ≡ inserted old key wire)
@@ -506,17 +544,18 @@ module _ (s : Session) (wire key : ℕ) (past : Pieces) (dials : List Answered) 
       let over : Concludes start d.0 = record { was_open = begins-open s.party wired; ended = ended-out false d.0 e x.stays.awake d.2 } in
       record {
         gained = gains v x.gained;
-        visits = first-visits-end s wire key past dials wired h' calls d.0 (built-late s built) dialled-so
+        visits = first-visits-end s wire key past dials wired h' calls d.0 dialled-so
             (shows.free key free) conv over;
         shows = subst (λ y. Shows (past ▸ visit wire (opened-visit v)) y) (opening-sources wire key dials v (map shown old.sources) ∙ (ap (λ y. registry y v) added ∙ x.shows))
             (first-over-shows wire key past (map shown old.sources) dials h' calls start d.0 shows fresh.unvisited free conv);
         others = λ w other. others-opened w v other (others-stay wire w calls tail own refl other);
         rests = x.rests;
         ticker = x.ticker ∙ ap (λ y. y.ticker) core;
-        made = x.made ∙ ap (λ y. y.made) core;
+        made = made-none old new (opened-visit v) (x.made ∙ ap (λ y. y.made) core)
+            (opening-unnumbered wire key dials v ∙ x.unnumbered);
         begun = x.begun ∙ (ap (λ y. after_begun y.begun (length (arms_told o))) core ∙ ap (after_begun old.begun)
             (sym (opening-armings wire key dials v ∙ (armings-stay wire calls tail own ∙ no-arms o x.stays.over))));
-        waits = opening-waits wire key dials v ∙ x.waits;
+        waits = unnumbered-waits (opened-visit v) (opening-unnumbered wire key dials v ∙ x.unnumbered);
         stands = λ pending. record {
           comes = record {
             on = x.stays.wired;
@@ -531,7 +570,7 @@ module _ (s : Session) (wire key : ℕ) (past : Pieces) (dials : List Answered) 
   first-asleep : (sl : Sleeper) (h h' : Held) (calls : List Event) (o : Option (List Event)) (b' : List ℕ) →
       RegisteredVisit wire key begun-at r1 mid new client (slot.Asleep sl) h h' calls o → Pauses talk [] client sl.client calls b' →
       (arm : List Event) → o ≡ Some arm →
-      VisitInRecord s wire past r0 r1 old new (slot.Asleep sl) (opened-visit (calls ++ arms_told o))
+      WaitsInRecord s wire key past r0 r1 old new sl (opened-visit (calls ++ arms_told o))
   first-asleep sl h h' calls o b' x goes arm is =
       let tail : List Event = arms_told o in
       let v : List Event = calls ++ tail in
@@ -548,147 +587,148 @@ module _ (s : Session) (wire key : ℕ) (past : Pieces) (dials : List Answered) 
       let told-so : calls ++ arm ≡ v = ap (λ y. calls ++ arms_told y) (sym is) in
       let sides : StandsAt here' (idle wire key) = stands-idle wire past key (unvisited wire past fresh.unvisited) in
       let leaves : LeavesAsleep here' h' v = subst (LeavesAsleep here' h') told-so (stays-leave-places wire here' (idle wire key) h' calls arm start end sides conv) in
-      let late : s.deadline ≡ None = built-late s built in
       record {
         gained = gains v x.gained;
-        visits = subst (λ y. Visit s wire past (opened-visit y)) told-so
-            (first-visits-sleep s wire key past dials wired h' calls arm end late dialled-so (shows.free key free) conv);
-        shows = subst (λ y. Shows (past ▸ visit wire (opened-visit v)) y) (opening-sources wire key dials v (map shown old.sources) ∙ (ap (λ y. registry y v) added ∙ x.shows))
-            (subst (λ y. Shows (past ▸ visit wire (opened-visit y)) (registry (map shown old.sources) (opened-visit y))) told-so
-            (first-asleep-shows wire key past (map shown old.sources) dials h' calls arm start end shows fresh.unvisited free conv).shows);
+        end = end;
+        comes = subst (λ y. ComesTo s wire past (opened-visit y) (rests_at s key end)) told-so
+            (first-visits-sleep s wire key past dials wired h' calls arm end dialled-so (shows.free key free) conv);
+        held = h';
+        shows = subst (λ y. ShowsAsleep (past ▸ visit wire (opened-visit v)) y wire key h')
+            (opening-sources wire key dials v (map shown old.sources) ∙ (ap (λ y. registry y v) added ∙ x.shows))
+            (subst (λ y. ShowsAsleep (past ▸ visit wire (opened-visit y)) (registry (map shown old.sources) (opened-visit y)) wire key h')
+            told-so
+            (first-asleep-shows wire key past (map shown old.sources) dials h' calls arm start end shows fresh.unvisited free conv));
         others = λ w other. others-opened w v other (others-stay wire w calls tail own (x.apart w) other);
         rests = x.rests;
         ticker = x.ticker ∙ ap (λ y. y.ticker) core;
         made = x.made ∙ ap (λ y. y.made) core;
         begun = x.begun ∙ (ap (λ y. after_begun y.begun (length (arms_told o))) core ∙ ap (after_begun old.begun)
             (sym (opening-armings wire key dials v ∙ (armings-stay wire calls tail own ∙ arming.counted))));
-        waits = opening-waits wire key dials v ∙ x.waits;
-        stands = λ pending. record {
-          open_ = x.stays.open_;
-          unread = moment-opened v ∙ (calls-reading wire calls tail None own ∙ arming.unread None);
-          comes = comes-here v calls end _ (own-stay wire calls tail own (x.apart wire)) through
-              (ap (λ l. outcome_of l end) (none-reached s.deadline (moment wire (past ▸ visit wire (opened-visit v))) late) ∙ goes.waiting s.party);
-          talking = record {
-            talk = talk;
-            got = b';
-            dir = goes.dir;
-            stands = goes.stands;
-            through = course-here v calls end (own-stay wire calls tail own (x.apart wire)) through;
-          };
-          paused = record {
-            registered = key-opened v ∙ (key-append (Some key) calls tail ∙ (arming.keyless _ ∙ (calls-key wire calls (Some key) own ∙ ap Some (sym x.stays.at))));
-            dir = leaves.dir;
-            last = paused-opened v ∙ leaves.stop _;
-            waits_or_due = inl (waits-opened leaves.dir v ∙ (side-waits _ _ (side_held leaves.dir h') (leaves.sides leaves.dir) ∙ leaves.waits));
-          };
+        unnumbered = opening-unnumbered wire key dials v ∙ x.unnumbered;
+        at = x.stays.at;
+        open_ = x.stays.open_;
+        untimed = x.stays.untimed;
+        unread = opening-fold last_reading_by (λ y w q a. refl) wire key dials v None
+            ∙ (calls-reading wire calls tail None own ∙ arming.unread None);
+        unnoticed = opening-fold notified_by (λ y w q a. refl) wire key dials v (notified wire past)
+            ∙ (calls-notified wire calls tail (notified wire past) own ∙ arming.unnoticed (notified wire past));
+        registered = key-opened v ∙ (key-append (Some key) calls tail ∙ (arming.keyless _ ∙ calls-key wire calls (Some key) own));
+        talking = record {
+          talk = talk;
+          got = b';
+          dir = goes.dir;
+          stands = goes.stands;
+          through = course-here v calls end (own-stay wire calls tail own (x.apart wire)) through;
         };
+        waiting = goes.waiting s.party;
+        dir = leaves.dir;
+        last = paused-opened v ∙ leaves.stop _;
+        up = waits-opened leaves.dir v ∙ (side-waits _ _ (side_held leaves.dir h') (leaves.sides leaves.dir) ∙ leaves.waits);
       }
 
   opened-found : (sl : Sleeper) (h h' : Held) (calls : List Event) (o : Option (List Event)) →
-      RegisteredVisit wire key begun-at r1 mid new client (slot.Asleep sl) h h' calls o → (b' : List ℕ) × Pauses talk [] client sl.client calls b' →
-      (arm : List Event) × (o ≡ Some arm) → (v : List Event) × VisitInRecord s wire past r0 r1 old new (slot.Asleep sl) v
-  opened-found sl h h' calls o x (b', goes) (arm, is) = (opened-visit (calls ++ arms_told o), first-asleep sl h h' calls o b' x goes arm is)
-
-  opened-goes : (c : Slot) → MakesRegisteredVisit wire key begun-at r1 mid new client c → (v : List Event) × VisitInRecord s wire past r0 r1 old new c v
-  opened-goes (slot.Ended e) (h, h', calls, o, x) = (opened-visit (calls ++ event.Delete wire key true ∷ []), first-ended e h h' calls o x)
-  opened-goes (slot.Asleep sl) (h, h', calls, o, x) = opened-found sl h h' calls o x (x.stays.goes talk [] stands) (some-arms o x.stays.over)
-  opened-goes slot.Refused (h, h', calls, o, x) = absurd x.stays
-
-  asleep-visits : (sl : Sleeper) (h h' : Held) (calls : List Event) (o : Option (List Event)) →
       RegisteredVisit wire key begun-at r1 mid new client (slot.Asleep sl) h h' calls o →
       (b' : List ℕ) × Pauses talk [] client sl.client calls b' → (arm : List Event) × (o ≡ Some arm) →
-      Visit s wire past (opened-visit (calls ++ arms_told o))
-  asleep-visits sl h h' calls o x (b', goes) (arm, is) = (first-asleep sl h h' calls o b' x goes arm is).visits
+      WaitsInRecord s wire key past r0 r1 old new sl (opened-visit (calls ++ arms_told o))
+  opened-found sl h h' calls o x (b', goes) (arm, is) = first-asleep sl h h' calls o b' x goes arm is
+
+  -- a first visit over a wire that was opened, up to its look at the clock
+  pub opened-ends : (e : Ended) → MakesRegisteredVisit wire key begun-at r1 mid new client (slot.Ended e) →
+      (v : List Event) × VisitInRecord s wire past r0 r1 old new (slot.Ended e) v
+  opened-ends e (h, h', calls, o, x) =
+      (opened-visit (calls ++ event.Delete wire key true ∷ []), first-ended e h h' calls o x)
+
+  pub opened-waits : (sl : Sleeper) → MakesRegisteredVisit wire key begun-at r1 mid new client (slot.Asleep sl) →
+      (v : List Event) × WaitsInRecord s wire key past r0 r1 old new sl v
+  opened-waits sl (h, h', calls, o, x) = (
+    opened-visit (calls ++ arms_told o),
+    opened-found sl h h' calls o x (x.stays.goes talk [] stands) (some-arms o x.stays.over),
+  )
 
   -- such a visit, by its parts
-  pub opened-visits : (c : Slot) (h h' : Held) (calls : List Event) (o : Option (List Event)) →
+  pub opened-comes : (c : Slot) (h h' : Held) (calls : List Event) (o : Option (List Event)) →
       RegisteredVisit wire key begun-at r1 mid new client c h h' calls o →
-      Visit s wire past (opened-visit (calls ++ visited.tail_of wire key o c))
-  opened-visits (slot.Ended e) h h' calls o x = (first-ended e h h' calls o x).visits
-  opened-visits (slot.Asleep sl) h h' calls o x =
-      asleep-visits sl h h' calls o x (x.stays.goes talk [] stands) (some-arms o x.stays.over)
-  opened-visits slot.Refused h h' calls o x = absurd x.stays
+      (stage : Stage) × ComesTo s wire past (opened-visit (calls ++ visited.tail_of wire key o c)) stage
+      × IsReading s key c stage
+  opened-comes (slot.Ended e) h h' calls o x = (finished, (first-ended e h h' calls o x).visits, refl)
+  opened-comes (slot.Asleep sl) h h' calls o x =
+      let w = opened-found sl h h' calls o x (x.stays.goes talk [] stands) (some-arms o x.stays.over) in
+      (rests_at s key w.end, w.comes, (w.end, refl))
+  opened-comes slot.Refused h h' calls o x = absurd x.stays
 
--- ---- both
+-- ---- a later visit
 
-pub goes-first : (s : Session) (wire : ℕ) (past : Pieces) (r0 r1 : Option (List Event)) (old new : Core) (c : Slot) →
-    is_built s ≡ true → Shows past (map shown old.sources) → IsNew wire past → IsBetweenCalls old →
-    FirstVisits s wire r0 r1 old new c → (v : List Event) × VisitInRecord s wire past r0 r1 old new c v
-goes-first s wire past r0 r1 old new c built shows fresh rests (visited.undialled dials failure e to awake still is says) =
-    let went : VisitInRecord s wire past r0 r1 old old (slot.Ended (record { ending = failure; written = []; leftover = []; wire = wire; moment = None })) (dials_of wire dials) =
-    goes-undialled s wire past r0 r1 old dials failure fresh rests to awake shows in
-    let Q : Slot → Type 0 = λ y. VisitInRecord s wire past r0 r1 old old y (dials_of wire dials) in
-    let R : Core → Type 0 = λ x. VisitInRecord s wire past r0 r1 old x c (dials_of wire dials) in
-    (dials_of wire dials, subst R (sym still) (subst Q (sym (is ∙ ap (λ y. slot.Ended y) says)) went))
-goes-first s wire past r0 r1 old new c built shows fresh rests (visited.dialled dials wired on to (talk, client, key, mid, r)) =
-    let M : Option (List Event) → Type 0 = λ x. MakesRegisteredVisit wire key (told x (event.Add wire key true ∷ [])) r1 mid new client c in
-    opened-goes s wire key past dials wired r0 r1 old mid new talk client built fresh shows to.through r.begins r.stands r.unwritten r.free r.core r.shows c (subst M to.gained r.stays)
+module _ (s : Session) (wire key : ℕ) (past : Pieces) (r0 r1 : Option (List Event)) (old new : Core) (c : Opening)
+    (talk : List (List ℕ) → Said) (b : List ℕ) (paused-so : Option Dir) (shows : Shows past (map shown old.sources))
+    (stands : StandsIn talk b c)
+    (came : course s (part wire (pieces.told past)) ≡ Some (stands_at s.party talk b c paused-so))
+    (open_ : is_ended (outcome_in false (stands_at s.party talk b c paused-so).progress) ≡ false) where
+  again-found : (sl : Sleeper) (h h' : Held) (calls : List Event) (o : Option (List Event)) →
+      RegisteredVisit wire key r0 r1 old new c (slot.Asleep sl) h h' calls o →
+      (b' : List ℕ) × Pauses talk b c sl.client calls b' → (arm : List Event) × (o ≡ Some arm) →
+      WaitsInRecord s wire key past r0 r1 old new sl (calls ++ arms_told o)
+  again-found sl h h' calls o x (b', goes) (arm, is) =
+      again-asleep s wire key past r0 r1 old new c talk b paused-so shows stands came open_ sl h h' calls o b' x goes
+      arm is
 
-again-found : (s : Session) (wire key : ℕ) (past : Pieces) (r0 r1 : Option (List Event)) (old new : Core)
-    (c : Opening) (talk : List (List ℕ) → Said) (b : List ℕ) (paused-so : Option Dir) (sl : Sleeper) (h h' : Held)
-    (calls : List Event) (o : Option (List Event)) → s.deadline ≡ None → Shows past (map shown old.sources) →
-    StandsIn talk b c → course s (part wire (pieces.told past)) ≡ Some (stands_at s.party talk b c paused-so) →
-    is_ended (outcome_in false (stands_at s.party talk b c paused-so).progress) ≡ false → RegisteredVisit wire key r0 r1 old new c (slot.Asleep sl) h h' calls o →
-    (b' : List ℕ) × Pauses talk b c sl.client calls b' → (arm : List Event) × (o ≡ Some arm) → (v : List Event) × VisitInRecord s wire past r0 r1 old new (slot.Asleep sl) v
-again-found s wire key past r0 r1 old new c talk b paused-so sl h h' calls o built shows stands came open_ x (b', goes) (arm, is) =
-    (calls ++ arms_told o, again-asleep s wire key past r0 r1 old new c talk b paused-so built shows stands came open_ sl h h' calls o b' x goes arm is)
+  again-ends : (e : Ended) → MakesRegisteredVisit wire key r0 r1 old new c (slot.Ended e) →
+      (v : List Event) × VisitInRecord s wire past r0 r1 old new (slot.Ended e) v
+  again-ends e (h, h', calls, o, x) = (
+    calls ++ event.Delete wire key true ∷ [],
+    again-ended s wire key past r0 r1 old new c talk b paused-so shows stands came open_ e h h' calls o x,
+  )
 
-again-by : (s : Session) (wire key : ℕ) (past : Pieces) (r0 r1 : Option (List Event)) (old new : Core) (c : Opening)
-    (talk : List (List ℕ) → Said) (b : List ℕ) (paused-so : Option Dir) (c' : Slot) → s.deadline ≡ None →
-    Shows past (map shown old.sources) → StandsIn talk b c → course s (part wire (pieces.told past)) ≡ Some (stands_at s.party talk b c paused-so) →
-    is_ended (outcome_in false (stands_at s.party talk b c paused-so).progress) ≡ false →
-    MakesRegisteredVisit wire key r0 r1 old new c c' → (v : List Event) × VisitInRecord s wire past r0 r1 old new c' v
-again-by s wire key past r0 r1 old new c talk b paused-so (slot.Ended e) built shows stands came open_ (h, h', calls, o, x) =
-    (calls ++ event.Delete wire key true ∷ [], again-ended s wire key past r0 r1 old new c talk b paused-so built shows stands came open_ e h h' calls o x)
-again-by s wire key past r0 r1 old new c talk b paused-so (slot.Asleep sl) built shows stands came open_ (h, h', calls, o, x) =
-    again-found s wire key past r0 r1 old new c talk b paused-so sl h h' calls o built shows stands came open_ x (x.stays.goes talk b stands) (some-arms o x.stays.over)
-again-by s wire key past r0 r1 old new c talk b paused-so slot.Refused built shows stands came open_ (h, h', calls, o, x) = absurd x.stays
+  again-waits : (sl : Sleeper) → MakesRegisteredVisit wire key r0 r1 old new c (slot.Asleep sl) →
+      (v : List Event) × WaitsInRecord s wire key past r0 r1 old new sl v
+  again-waits sl (h, h', calls, o, x) =
+      (calls ++ arms_told o, again-found sl h h' calls o x (x.stays.goes talk b stands) (some-arms o x.stays.over))
 
-pub goes-again : (s : Session) (wire : ℕ) (past : Pieces) (r0 r1 : Option (List Event)) (old new : Core)
-    (sl : Sleeper) (pending : List ℕ) (c : Slot) → is_built s ≡ true → Shows past (map shown old.sources) →
-    Stands s wire pending past (slot.Asleep sl) → MakesRegisteredVisit wire sl.key r0 r1 old new sl.client c → (v : List Event) × VisitInRecord s wire past r0 r1 old new c v
-goes-again s wire past r0 r1 old new sl pending c built shows is stays =
-    let begin : Course = stands_at s.party is.talking.talk is.talking.got sl.client (Some is.talking.dir) in
-    let late : has_reached s.deadline (moment wire past) ≡ false = none-reached s.deadline (moment wire past) (built-late s built) in
-    let comes : outcome_of false begin ≡ Some (record { ending = ending.Waiting; written = sl.client.written; leftover = sl.client.rest }) =
-    ap (λ l. outcome_of l begin) (sym late) ∙ (sym (ap (option_and_then (outcome_of (has_reached s.deadline (moment wire past)))) is.talking.through) ∙ is.comes) in
-    again-by s wire sl.key past r0 r1 old new sl.client is.talking.talk is.talking.got (Some is.talking.dir) c (built-late s built) shows is.talking.stands is.talking.through
-    (ap is_ended comes) stays
+  again-comes : (c' : Slot) (h h' : Held) (calls : List Event) (o : Option (List Event)) →
+      RegisteredVisit wire key r0 r1 old new c c' h h' calls o →
+      (stage : Stage) × ComesTo s wire past (calls ++ visited.tail_of wire key o c') stage × IsReading s key c' stage
+  again-comes (slot.Ended e) h h' calls o x = (
+    finished,
+    (again-ended s wire key past r0 r1 old new c talk b paused-so shows stands came open_ e h h' calls o x).visits,
+    refl,
+  )
+  again-comes (slot.Asleep sl) h h' calls o x =
+      let w = again-found sl h h' calls o x (x.stays.goes talk b stands) (some-arms o x.stays.over) in
+      (rests_at s key w.end, w.comes, (w.end, refl))
+  again-comes slot.Refused h h' calls o x = absurd x.stays
 
--- ---- a later visit, by its parts
+module _ (s : Session) (wire : ℕ) (past : Pieces) (r0 r1 : Option (List Event)) (old new : Core)
+    (sl : Sleeper) (pending : List ℕ) (shows : Shows past (map shown old.sources))
+    (is : Stands s wire pending past (slot.Asleep sl)) where
+  abbrev begin-at : Course
+  begin-at = stands_at s.party is.talking.talk is.talking.got sl.client (Some is.talking.dir)
 
-again-visits : (s : Session) (wire key : ℕ) (past : Pieces) (r0 r1 : Option (List Event)) (old new : Core)
-    (c : Opening) (talk : List (List ℕ) → Said) (b : List ℕ) (paused-so : Option Dir) (c' : Slot) (h h' : Held)
-    (calls : List Event) (o : Option (List Event)) → s.deadline ≡ None → Shows past (map shown old.sources) →
-    StandsIn talk b c → course s (part wire (pieces.told past)) ≡ Some (stands_at s.party talk b c paused-so) →
-    is_ended (outcome_in false (stands_at s.party talk b c paused-so).progress) ≡ false →
-    RegisteredVisit wire key r0 r1 old new c c' h h' calls o → Visit s wire past (calls ++ visited.tail_of wire key o c')
-again-visits s wire key past r0 r1 old new c talk b paused-so (slot.Ended e) h h' calls o built shows stands came open_ x =
-    (again-ended s wire key past r0 r1 old new c talk b paused-so built shows stands came open_ e h h' calls o x).visits
-again-visits s wire key past r0 r1 old new c talk b paused-so (slot.Asleep sl) h h' calls o built shows stands came open_ x =
-    asleep_so (x.stays.goes talk b stands) (some-arms o x.stays.over)
-  where
-    asleep_so : (b' : List ℕ) × Pauses talk b c sl.client calls b' → (arm : List Event) × (o ≡ Some arm) →
-        Visit s wire past (calls ++ arms_told o)
-    asleep_so (b', goes) (arm, is) =
-        (again-asleep s wire key past r0 r1 old new c talk b paused-so built shows stands came open_ sl h h' calls o b'
-        x goes arm is).visits
-again-visits s wire key past r0 r1 old new c talk b paused-so slot.Refused h h' calls o built shows stands came open_ x =
-    absurd x.stays
+  -- it has not ended
+  waits-still : is_ended (outcome_in false begin-at.progress) ≡ false
+  waits-still =
+      let late : has_reached s.deadline (moment wire past) ≡ false = ap (has_reached s.deadline) is.read ∙ is.early in
+      ap is_ended (ap (λ l. outcome_of l begin-at) (sym late)
+      ∙ (sym (ap (option_and_then (outcome_of (has_reached s.deadline (moment wire past)))) is.talking.through)
+      ∙ is.comes))
 
-pub later-visits : (s : Session) (wire : ℕ) (past : Pieces) (r0 r1 : Option (List Event)) (old new : Core)
+  -- a later visit, up to its look at the clock
+  pub later-ends : (e : Ended) → MakesRegisteredVisit wire sl.key r0 r1 old new sl.client (slot.Ended e) →
+      (v : List Event) × VisitInRecord s wire past r0 r1 old new (slot.Ended e) v
+  later-ends e visits =
+      again-ends s wire sl.key past r0 r1 old new sl.client is.talking.talk is.talking.got (Some is.talking.dir) shows
+      is.talking.stands is.talking.through waits-still e visits
+
+  pub later-waits : (c : Sleeper) → MakesRegisteredVisit wire sl.key r0 r1 old new sl.client (slot.Asleep c) →
+      (v : List Event) × WaitsInRecord s wire sl.key past r0 r1 old new c v
+  later-waits c visits =
+      again-waits s wire sl.key past r0 r1 old new sl.client is.talking.talk is.talking.got (Some is.talking.dir) shows
+      is.talking.stands is.talking.through waits-still c visits
+
+-- such a visit, by its parts
+pub later-comes : (s : Session) (wire : ℕ) (past : Pieces) (r0 r1 : Option (List Event)) (old new : Core)
     (sl : Sleeper) (pending : List ℕ) (c : Slot) (h h' : Held) (calls : List Event) (o : Option (List Event)) →
-    is_built s ≡ true → Shows past (map shown old.sources) → Stands s wire pending past (slot.Asleep sl) →
+    Shows past (map shown old.sources) → Stands s wire pending past (slot.Asleep sl) →
     RegisteredVisit wire sl.key r0 r1 old new sl.client c h h' calls o →
-    Visit s wire past (calls ++ visited.tail_of wire sl.key o c)
-later-visits s wire past r0 r1 old new sl pending c h h' calls o built shows is x =
-    let begin : Course = stands_at s.party is.talking.talk is.talking.got sl.client (Some is.talking.dir) in
-    let late : has_reached s.deadline (moment wire past) ≡ false =
-    none-reached s.deadline (moment wire past) (built-late s built) in
-    let comes : outcome_of false begin
-    ≡ Some (record { ending = ending.Waiting; written = sl.client.written; leftover = sl.client.rest }) =
-    ap (λ l. outcome_of l begin) (sym late)
-    ∙ (sym (ap (option_and_then (outcome_of (has_reached s.deadline (moment wire past)))) is.talking.through)
-    ∙ is.comes) in
-    again-visits s wire sl.key past r0 r1 old new sl.client is.talking.talk is.talking.got (Some is.talking.dir) c h h'
-    calls o (built-late s built) shows is.talking.stands is.talking.through (ap is_ended comes) x
+    (stage : Stage) × ComesTo s wire past (calls ++ visited.tail_of wire sl.key o c) stage × IsReading s sl.key c stage
+later-comes s wire past r0 r1 old new sl pending c h h' calls o shows is x =
+    again-comes s wire sl.key past r0 r1 old new sl.client is.talking.talk is.talking.got (Some is.talking.dir) shows
+    is.talking.stands is.talking.through (waits-still s wire past r0 r1 old new sl pending shows is) c h h' calls o x

@@ -19,26 +19,26 @@ use Rattle.bus_session.specs.Alone.{came_to, Course, course}
 use Rattle.bus_record.specs.Pieces.{Pieces, told}
 use Rattle.bus_record.specs.Places.{key_of, holder}
 use Rattle.bus_record.specs.Visits.{Here, Stage, here, here_by, registering, conversing, goes_on, after_dial, starts}
-use Rattle.bus_record.specs.Visits.{starts_at, was_visited, Visit}
+use Rattle.bus_record.specs.Visits.{starts_at, was_visited, finished}
 use Rattle.bus_visit.specs.Dialled.{Answered, dials_of, dials_through, opening}
 use Rattle.bus_visit.specs.Registry.{idle}
 use Rattle.bus_peers.specs.inside.Shows.{StandsAt}
 use Rattle.bus_peers.specs.inside.RegisteredVisits.{FirstDials, opened_course}
 use Rattle.bus_peers.specs.inside.Laws.{StaysEndAsleep, StaysEndOver, StaysLeavePlaces, FirstVisitsFail, FirstVisitsSleep}
-use Rattle.bus_peers.specs.inside.Laws.{FirstVisitsEnd, LaterVisitsSleep, LaterVisitsEnd}
+use Rattle.bus_peers.specs.inside.Laws.{ComesTo, FirstVisitsEnd, LaterVisitsSleep, LaterVisitsEnd}
 use Rattle.bus_peers.proofs.OtherWires.{Unvisited, unvisited, visited-keyed}
 use Rattle.bus_peers.proofs.StayPlaces.{leaves-asleep}
-use Rattle.bus_peers.proofs.StayVisits.{Ends, falls-asleep, ends-stay}
+use Rattle.bus_peers.proofs.StayVisits.{LeadsTo, rests_at, falls-asleep, ends-stay}
 
 -- ---- a stay
 
 pub stays-end-asleep : (s : Session) → StaysEndAsleep s
-stays-end-asleep s wire key h from to calls arm begin end late at keyed wired c =
-    falls-asleep s wire key calls h from to arm begin end late keyed wired c.called at c.asked c.through
+stays-end-asleep s wire key h from to calls arm begin end at keyed wired c =
+    falls-asleep s wire key calls h from to arm begin end keyed wired c.called at c.asked c.through
 
 pub stays-end-over : (s : Session) → StaysEndOver s
-stays-end-over s wire key h from to calls begin end late at c over =
-    ends-stay s wire key calls h from to begin end late c.called at c.asked c.through over.was_open over.ended
+stays-end-over s wire key h from to calls begin end at c over =
+    ends-stay s wire key calls h from to begin end c.called at c.asked c.through over.was_open over.ended
 
 pub stays-leave-places : StaysLeavePlaces
 stays-leave-places wire h from to calls arm begin end at c =
@@ -162,28 +162,28 @@ registers-next s wire key past dials o f free =
     first-dials s wire past dials (opens o) (event.Add wire key true ∷ []) f
     ∙ add-next s wire (here wire past) (opened_course s o) key [] free
 
--- a first visit over a wire that was opened ends as its conversation does
-first-visit : (s : Session) (wire key : ℕ) (past : Pieces) (dials : List Answered) (o : Opened) (events : List Event) →
-    FirstDials s wire past dials (opens o) → holder key past ≡ None →
-    Ends s wire key (registered_at wire past key) (opened_course s o) events →
-    Visit s wire past (opening wire key dials ++ events)
-first-visit s wire key past dials o events f free ends =
+-- a first visit over a wire that was opened leads where its conversation does
+first-visit : (s : Session) (wire key : ℕ) (past : Pieces) (dials : List Answered) (o : Opened) (events : List Event)
+    (stage : Stage) → FirstDials s wire past dials (opens o) → holder key past ≡ None →
+    LeadsTo s wire key stage (registered_at wire past key) (opened_course s o) events →
+    ComesTo s wire past (opening wire key dials ++ events) stage
+first-visit s wire key past dials o events stage f free ends =
     ap (λ v. goes_on s wire (here wire past) (starts s wire past) v)
     (append_assoc (dials_of wire dials) (event.Add wire key true ∷ []) events)
     ∙ (first-dials s wire past dials (opens o) (event.Add wire key true ∷ events) f
     ∙ (add-next s wire (here wire past) (opened_course s o) key events free ∙ ends))
 
 pub first-visits-sleep : (s : Session) → FirstVisitsSleep s
-first-visits-sleep s wire key past dials o to calls arm end late f free c =
-    first-visit s wire key past dials o (calls ++ arm) f free
+first-visits-sleep s wire key past dials o to calls arm end f free c =
+    first-visit s wire key past dials o (calls ++ arm) (rests_at s key end) f free
     (stays-end-asleep s wire key (registered_at wire past key) (idle wire key) to calls arm
-    (opened_course s o) end late (stands-idle wire past key (unvisited wire past f.unvisited)) refl refl c)
+    (opened_course s o) end (stands-idle wire past key (unvisited wire past f.unvisited)) refl refl c)
 
 pub first-visits-end : (s : Session) → FirstVisitsEnd s
-first-visits-end s wire key past dials o to calls end late f free c over =
-    first-visit s wire key past dials o (calls ++ event.Delete wire key true ∷ []) f free
+first-visits-end s wire key past dials o to calls end f free c over =
+    first-visit s wire key past dials o (calls ++ event.Delete wire key true ∷ []) finished f free
     (stays-end-over s wire key (registered_at wire past key) (idle wire key) to calls
-    (opened_course s o) end late (stands-idle wire past key (unvisited wire past f.unvisited)) c over)
+    (opened_course s o) end (stands-idle wire past key (unvisited wire past f.unvisited)) c over)
 
 -- ---- a later visit
 
@@ -195,18 +195,18 @@ starts-later s wire past key c keyed stands =
     ∙ (ap (λ o. option_and_then (starts_at true (key_of wire past)) o) stands
     ∙ ap (λ k. starts_at true k c) keyed)
 
-later-visit : (s : Session) (wire : ℕ) (past : Pieces) (key : ℕ) (c : Course) (events : List Event) →
+later-visit : (s : Session) (wire : ℕ) (past : Pieces) (key : ℕ) (c : Course) (events : List Event) (stage : Stage) →
     key_of wire past ≡ Some key → course s (part wire (told past)) ≡ Some c →
-    Ends s wire key (here wire past) c events → Visit s wire past events
-later-visit s wire past key c events keyed stands ends =
+    LeadsTo s wire key stage (here wire past) c events → ComesTo s wire past events stage
+later-visit s wire past key c events stage keyed stands ends =
     ap (λ o. goes_on s wire (here wire past) o events) (starts-later s wire past key c keyed stands) ∙ ends
 
 pub later-visits-sleep : (s : Session) → LaterVisitsSleep s
-later-visits-sleep s wire past from to calls arm begin end late keyed wired at stands c =
-    later-visit s wire past from.key begin (calls ++ arm) keyed stands
-    (stays-end-asleep s wire from.key (here wire past) from to calls arm begin end late at refl wired c)
+later-visits-sleep s wire past from to calls arm begin end keyed wired at stands c =
+    later-visit s wire past from.key begin (calls ++ arm) (rests_at s from.key end) keyed stands
+    (stays-end-asleep s wire from.key (here wire past) from to calls arm begin end at refl wired c)
 
 pub later-visits-end : (s : Session) → LaterVisitsEnd s
-later-visits-end s wire past from to calls begin end late keyed at stands c over =
-    later-visit s wire past from.key begin (calls ++ event.Delete wire from.key true ∷ []) keyed stands
-    (stays-end-over s wire from.key (here wire past) from to calls begin end late at c over)
+later-visits-end s wire past from to calls begin end keyed at stands c over =
+    later-visit s wire past from.key begin (calls ++ event.Delete wire from.key true ∷ []) finished keyed stands
+    (stays-end-over s wire from.key (here wire past) from to calls begin end at c over)

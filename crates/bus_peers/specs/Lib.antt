@@ -1,3 +1,4 @@
+pub mod Exhausted
 pub mod Headline
 pub mod Faults
 pub mod inside

@@ -6,6 +6,7 @@ pub mod Due
 pub mod Laws
 pub mod Closing
 pub mod Slots
+pub mod Alarms
 pub mod Rounds
 pub mod SlotFaults
 pub mod Failures

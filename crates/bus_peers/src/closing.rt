@@ -10,12 +10,13 @@ ghost use Rattle.bus_peers.specs.inside.Rounds.{is_kept, cleared, AllEnd, EndsIn
 ghost use Rattle.bus_peers.specs.inside.Closing.{closing};
 ghost use Rattle.bus_peers.specs.inside.Failures.{Removes};
 ghost use Rattle.bus_visit.specs.Shown.{shown, tags};
+ghost use Rattle.bus_visit.specs.Timed.{moment_after};
 ghost use Rattle.bus_peers.specs.inside.Slots.{Owned};
 ghost use Rattle.bus_peers.specs.inside.SlotFaults.{VisitsCounted};
 
 use crate::open::OpenError;
 use bus_session::{Ended, Ending};
-use bus_visit::{Slot, ended_of};
+use bus_visit::{Sleeper, Slot, ended_of};
 use react_core::outside::Registrar;
 use react_core::reactor::Reactor;
 use std::alloc::Global;
@@ -94,6 +95,16 @@ pub(crate) fn close<R: Registrar>(
     removed
 }
 
+/// The clock's reading in the last visit of a session that sleeps, where it has a deadline.
+fn moment_of(sleeper: &Sleeper) -> Option<u64>
+    ensures { result ≡ moment_after sleeper.now.alarm }
+{
+    match &sleeper.alarm {
+        Some(alarm) => Some(alarm.moment),
+        None => None,
+    }
+}
+
 /// What the session of a slot has come to: one that sleeps still waits.
 fn ended_in(alloc: Global, wire: u32, slot: Slot) -> Result<Ended, OpenError>
     requires kept { is_kept slot ≡ true }
@@ -102,7 +113,11 @@ fn ended_in(alloc: Global, wire: u32, slot: Slot) -> Result<Ended, OpenError>
 {
     match slot {
         Slot::Ended(ended) => Ok(ended),
-        Slot::Asleep(sleeper) => Ok(ended_of(alloc, wire, Ending::Waiting, &sleeper.client)?),
+        Slot::Asleep(sleeper) => {
+            let mut ended = ended_of(alloc, wire, Ending::Waiting, &sleeper.client)?;
+            ended.moment = moment_of(&sleeper);
+            Ok(ended)
+        }
         Slot::Refused => unreachable!(),
     }
 }

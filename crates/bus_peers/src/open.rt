@@ -2,21 +2,19 @@
 
 ghost use Rattle.std.specs.Prelude.{◌≡◌, ◌≢◌, ◌≤◌, ◌<◌, ◌^◌, ◌++◌, ◌+◌, ℕ, List, [], true, length, vec_capacity};
 ghost use Rattle.std.specs.Prelude.{OnOk, IfOk};
-ghost use Rattle.std.specs.List.{list_all};
-ghost use Rattle.react_core.specs.Core.{IsIdle};
+ghost use Rattle.react_core.specs.Core.{IsIdle, timers_applied};
 ghost use Rattle.react_core.specs.Outer.{Keeps};
 ghost use Rattle.react_core.specs.Outer as part;
 ghost use Rattle.react_core.specs.Told.{told, Rose};
 ghost use Rattle.react_core.specs.declared.outside.Event.{Event};
 ghost use Rattle.bus_record.specs.Pieces.{Pieces};
 ghost use Rattle.bus_peers.specs.Faults.{EndedsCounted};
-ghost use Rattle.bus_peers.specs.inside.Failures.{OnPoller, CallFails};
+ghost use Rattle.bus_peers.specs.inside.Failures.{OnPoller, CallFails, CallRunsOut, OnTimerExhausted, Halts};
+ghost use Rattle.bus_peers.specs.inside.Alarms.{Alarmed};
 ghost use Rattle.bus_peers.specs.inside.SlotFaults.{AllCounted};
-ghost use Rattle.bus_peers.specs.Headline.{Opened, RefusedWith, OpenCounted, Completes};
-ghost use Rattle.bus_session.specs.Sessions.{is_built};
+ghost use Rattle.bus_peers.specs.Headline.{Opened, RefusedWith, OpenCounted, Completes, MadeTold};
 ghost use Rattle.bus_visit.specs.Shown.{IsBetweenCalls, tags};
-ghost use Rattle.bus_peers.specs.inside.Slots.{Owned, AllOpen, CallStandsAfter, CallSettled, Refuses, Halts};
-ghost use Rattle.bus_peers.specs.inside.SlotFaults.{VisitsCounted};
+ghost use Rattle.bus_peers.specs.inside.Slots.{Owned, AllOpen, CallStandsAfter, CallSettled, Refuses};
 
 use crate::closing::{close, endeds_in};
 use crate::rounds::{Nobody, go_rounds};
@@ -93,9 +91,9 @@ fn open_first<O: Outside>(
     slots: &mut Vec<Slot>,
 ) -> Result<(), OpenError>
     requires few { length sessions.now.items < 2 ^ 32 }
-    requires built { list_all is_built sessions.now.items ≡ true }
     requires rests { IsBetweenCalls reactor.old.core }
     requires empty { reactor.old.core.sources ≡ [] }
+    requires timeless { timers_applied reactor.old.core ≡ [] }
     requires unused { slots.old.items ≡ [] }
     requires room { length sessions.now.items ≤ vec_capacity slots.old }
     ensures went { OnOk result
@@ -107,15 +105,21 @@ fn open_first<O: Outside>(
     ensures len { OnOk result (length slots.new.items ≡ length sessions.now.items) }
     ensures few { length slots.new.items < 2 ^ 32 }
     ensures owned { Owned slots.new.items (tags reactor.new.core.sources) }
+    ensures alarmed { OnOk result
+        (Alarmed (O.outer outside.new).moment reactor.new.core [] slots.new.items) }
     ensures refused { Refuses result ((O.outer outside.old).events) ((O.outer outside.new).events) reactor.old.core
         reactor.new.core }
     ensures failed { OnPoller result
         ((rounds : ℕ) → CallFails sessions.now.items rounds (O.outer outside.old).ample reactor.old.core
         ((O.outer outside.old).events) ((O.outer outside.new).events) reactor.new.core) }
     ensures within { length slots.new.items ≤ length sessions.now.items }
-    ensures cause { VisitsCounted result ((O.outer outside.old).poller_faults) ((O.outer outside.new).poller_faults) }
+    ensures exhausted { OnTimerExhausted result
+        ((rounds : ℕ) → CallRunsOut sessions.now.items rounds (O.outer outside.old).ample reactor.old.core
+        ((O.outer outside.old).events) ((O.outer outside.new).events) reactor.new.core) }
+    ensures cause { OpenCounted result ((O.outer outside.old).poller_faults) ((O.outer outside.new).poller_faults) }
     ensures counted { OnOk result (AllCounted 0 slots.new.items (O.outer outside.old) (O.outer outside.new)) }
-    ensures timers { reactor.new.core.made ≡ reactor.old.core.made }
+    ensures timers { MadeTold reactor.old.core reactor.new.core ((O.outer outside.old).events)
+        ((O.outer outside.new).events) }
     ensures keeps { (room : ℕ) → Keeps (part.All room) (O.outer outside.old) (O.outer outside.new) }
     ensures reports { reactor.new.events ≡ reactor.old.events }
 {
@@ -137,17 +141,17 @@ fn open_rounds<O: Outside>(
     slots: &mut Vec<Slot>,
 ) -> Result<(), OpenError>
     requires few { length sessions.now.items < 2 ^ 32 }
-    requires built { list_all is_built sessions.now.items ≡ true }
     requires rests { IsBetweenCalls reactor.old.core }
     requires empty { reactor.old.core.sources ≡ [] }
+    requires timeless { timers_applied reactor.old.core ≡ [] }
     requires unused { slots.old.items ≡ [] }
     requires room { length sessions.now.items ≤ vec_capacity slots.old }
     ensures rested { OnOk result
         ((past : Pieces)
         × CallSettled sessions.now.items rounds reactor.old.core ((O.outer outside.old).events)
         ((O.outer outside.new).events) reactor.new.core slots.new.items past) }
-    ensures halted { Halts result sessions.now.items rounds reactor.old.core ((O.outer outside.old).events)
-        ((O.outer outside.new).events) reactor.new.core slots.new.items }
+    ensures halted { Halts result sessions.now.items rounds (O.outer outside.old).ample reactor.old.core
+        ((O.outer outside.old).events) ((O.outer outside.new).events) reactor.new.core slots.new.items }
     ensures len { OnOk result (length slots.new.items ≡ length sessions.now.items) }
     ensures few { length slots.new.items < 2 ^ 32 }
     ensures owned { Owned slots.new.items (tags reactor.new.core.sources) }
@@ -159,7 +163,8 @@ fn open_rounds<O: Outside>(
     ensures within { length slots.new.items ≤ length sessions.now.items }
     ensures cause { OpenCounted result ((O.outer outside.old).poller_faults) ((O.outer outside.new).poller_faults) }
     ensures counted { OnOk result (AllCounted 0 slots.new.items (O.outer outside.old) (O.outer outside.new)) }
-    ensures timers { reactor.new.core.made ≡ reactor.old.core.made }
+    ensures timers { MadeTold reactor.old.core reactor.new.core ((O.outer outside.old).events)
+        ((O.outer outside.new).events) }
     ensures keeps { Keeps (part.All reactor.old.events) (O.outer outside.old) (O.outer outside.new) }
     ensures reports { reactor.new.events ≡ reactor.old.events }
 {
@@ -177,7 +182,6 @@ fn open_over<O: Outside>(
 ) -> Result<Vec<Ended>, OpenError>
     requires idle { IsIdle reactor.old.core }
     requires few { length sessions.now.items < 2 ^ 32 }
-    requires built { list_all is_built sessions.now.items ≡ true }
     ensures opened { (r : List Event) × ((O.outer outside.new).events ≡ told ((O.outer outside.old).events) r)
         × IfOk result (λ endeds. Opened sessions.now.items rounds reactor.old.core reactor.new.core endeds.items r)
         × RefusedWith sessions.now.items rounds (O.outer outside.old).ample reactor.old.core reactor.new.core
@@ -185,7 +189,8 @@ fn open_over<O: Outside>(
     ensures idle { IsIdle reactor.new.core }
     ensures cause { OpenCounted result ((O.outer outside.old).poller_faults) ((O.outer outside.new).poller_faults) }
     ensures faults { IfOk result (λ endeds. EndedsCounted 0 endeds.items (O.outer outside.old) (O.outer outside.new)) }
-    ensures timers { reactor.new.core.made ≡ reactor.old.core.made }
+    ensures timers { MadeTold reactor.old.core reactor.new.core ((O.outer outside.old).events)
+        ((O.outer outside.new).events) }
     ensures keeps { Keeps (part.All reactor.old.events) (O.outer outside.old) (O.outer outside.new) }
     ensures reports { reactor.new.events ≡ reactor.old.events }
 {
@@ -202,16 +207,18 @@ fn open_over<O: Outside>(
 /// Opens the sessions over any outside. Session i has wire i.
 ///
 /// Each is visited once, in order: it dials or takes the connection that its peer opened, registers its wire in the
-/// reactor, and has its conversation until that ends or its wire isn't ready. Then, while one sleeps and fewer than
-/// `rounds` rounds came, one more comes, and those that it makes due are visited. At the end the sources of those
-/// that still sleep are taken out.
+/// reactor, and has its conversation until that ends or its wire isn't ready. Then the clock is read, where it has a
+/// deadline (a moment in nanoseconds): a reading at or after it ends the session as TimedOut, one before it makes the
+/// timer that wakes the session then. While one sleeps and fewer than `rounds` rounds came, one more comes, which waits
+/// no longer than to the nearest deadline, and those that it makes due are visited. At the end the sources and timers
+/// of those that still sleep are taken out.
 ///
 /// At Ok, where the outside tells its record, each session has what its own part of the record alone decides, and
 /// the record is settled. Whether it tells or not, an ending is Connection only where the count of its wire's
 /// dialling rose, and Io only where that or the count of the wire's own faults did.
 ///
-/// Poller: the poller failed. Exhausted: a round's number was needed, and the reactor's counter stood at its end.
-/// After every answer the reactor is idle, and no timer was made.
+/// Poller: the poller failed. Exhausted: the number of a round or of a timer was needed, and the reactor's counter stood
+/// at its end. After every answer the reactor is idle, and each timer that was made was notified.
 pub fn open_all<O: Outside>(
     alloc: Global,
     reactor: &mut Reactor,
@@ -221,16 +228,17 @@ pub fn open_all<O: Outside>(
 ) -> Result<Vec<Ended>, OpenError>
     requires idle { IsIdle reactor.old.core }
     requires few { length sessions.items < 2 ^ 32 }
-    requires built { list_all is_built sessions.items ≡ true }
     ensures opened { (r : List Event) × ((O.outer outside.new).events ≡ told ((O.outer outside.old).events) r)
         × IfOk result (λ endeds. Opened sessions.items rounds reactor.old.core reactor.new.core endeds.items r)
         × RefusedWith sessions.items rounds (O.outer outside.old).ample reactor.old.core reactor.new.core result r }
     ensures cause { OpenCounted result ((O.outer outside.old).poller_faults) ((O.outer outside.new).poller_faults) }
     ensures complete { ¬ Rose ((O.outer outside.old).poller_faults) ((O.outer outside.new).poller_faults)
-        → reactor.old.core.ticker + rounds < 2 ^ 64 → Completes result }
+        → reactor.old.core.ticker + rounds < 2 ^ 64 → reactor.old.core.made + length sessions.items < 2 ^ 64
+        → Completes result }
     ensures idle { IsIdle reactor.new.core }
     ensures faults { IfOk result (λ endeds. EndedsCounted 0 endeds.items (O.outer outside.old) (O.outer outside.new)) }
-    ensures timers { reactor.new.core.made ≡ reactor.old.core.made }
+    ensures timers { MadeTold reactor.old.core reactor.new.core ((O.outer outside.old).events)
+        ((O.outer outside.new).events) }
     ensures keeps { Keeps (part.All reactor.old.events) (O.outer outside.old) (O.outer outside.new) }
     ensures reports { reactor.new.events ≡ reactor.old.events }
 {

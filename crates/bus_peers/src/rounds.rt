@@ -7,7 +7,8 @@ ghost use Rattle.react_core.specs.Outer.{Keeps};
 ghost use Rattle.react_core.specs.Outer as part;
 ghost use Rattle.react_core.specs.declared.outside.Event.{Event};
 ghost use Rattle.bus_peers.specs.inside.SlotFaults.{CountsOn};
-ghost use Rattle.bus_peers.specs.Headline.{OpenCounted};
+ghost use Rattle.bus_peers.specs.Headline.{OpenCounted, MadeTold};
+ghost use Rattle.bus_peers.specs.inside.Alarms.{Alarmed};
 ghost use Rattle.bus_peers.specs.inside.Rounds.{Rounded, WokenBy, HaveWires, OnExhausted};
 ghost use Rattle.bus_peers.specs.inside.Due.{RisesFrom};
 ghost use Rattle.bus_peers.specs.inside.Failures.{OnPoller, RoundFailed, VisitsFailCall, RoundFailsCall};
@@ -22,7 +23,7 @@ ghost use Rattle.bus_peers.specs.inside.SlotFaults.{VisitsCounted};
 use crate::open::OpenError;
 use bus_session::Session;
 use bus_visit::{Sleeper, Slot, visit};
-use react_core::outside::{Clock, Outside, Poller, Registrar, Wakes, Wire};
+use react_core::outside::{Clock, Notifier, Outside, Poller, Registrar, Wakes, Wire};
 use react_core::reactor::Reactor;
 use std::alloc::Global;
 use std::mem;
@@ -73,7 +74,7 @@ fn in_order(woken: Woken) -> Result<Vec<u64>, OpenError>
     Ok(tasks)
 }
 
-/// One round, without a timeout: the sessions that it makes due, in order.
+/// One round: the sessions that it makes due, in order.
 fn round<O: Clock + Poller>(
     alloc: Global,
     reactor: &mut Reactor,
@@ -82,8 +83,8 @@ fn round<O: Clock + Poller>(
     requires rests { IsBetweenCalls reactor.old.core }
     ensures rounded { IfOk result
         (λ woken. (r : Round)
-        × Rounded ((O.outer outside.old).events) ((O.outer outside.new).events) reactor.old.core reactor.new.core
-        woken.items r) }
+        × Rounded ((O.outer outside.old).events) ((O.outer outside.new).events) (O.outer outside.old).moment
+        (O.outer outside.new).moment reactor.old.core reactor.new.core woken.items r) }
     ensures refused { Refuses result ((O.outer outside.old).events) ((O.outer outside.new).events) reactor.old.core
         reactor.new.core }
     ensures tags { tags reactor.new.core.sources ≡ tags reactor.old.core.sources }
@@ -94,7 +95,8 @@ fn round<O: Clock + Poller>(
         × RoundFailed (O.outer outside.old).ample ((O.outer outside.old).events)
         ((O.outer outside.new).events) reactor.old.core reactor.new.core r rearmed) }
     ensures cause { OpenCounted result ((O.outer outside.old).poller_faults) ((O.outer outside.new).poller_faults) }
-    ensures timers { reactor.new.core.made ≡ reactor.old.core.made }
+    ensures timers { MadeTold reactor.old.core reactor.new.core ((O.outer outside.old).events)
+        ((O.outer outside.new).events) }
     ensures keeps { Keeps (part.Round reactor.old.events) (O.outer outside.old) (O.outer outside.new) }
     ensures reports { reactor.new.events ≡ reactor.old.events }
 {
@@ -109,7 +111,7 @@ fn round<O: Clock + Poller>(
 }
 
 /// A visit of the session of this wire, which sleeps.
-fn visit_slot<O: Wire + Registrar>(
+fn visit_slot<O: Wire + Registrar + Clock + Notifier>(
     alloc: Global,
     reactor: &mut Reactor,
     outside: &mut O,
@@ -127,6 +129,10 @@ fn visit_slot<O: Wire + Registrar>(
     ensures rests { OnOk result (IsBetweenCalls reactor.new.core) }
     ensures stands { OnOk result (AllOpen slots.new.items) }
     ensures owned { Owned slots.new.items (tags reactor.new.core.sources) }
+    ensures alarmed { OnOk result
+        ((pending : List ℕ)
+        → Alarmed (O.outer outside.old).moment reactor.old.core (wire ∷ pending) slots.old.items
+        → Alarmed (O.outer outside.new).moment reactor.new.core pending slots.new.items) }
     ensures others { (w : ℕ) → w ≢ wire → has_wire w (tags reactor.new.core.sources)
         ≡ has_wire w (tags reactor.old.core.sources) }
     ensures len { length slots.new.items ≡ length slots.old.items }
@@ -142,7 +148,8 @@ fn visit_slot<O: Wire + Registrar>(
     ensures cause { VisitsCounted result ((O.outer outside.old).poller_faults) ((O.outer outside.new).poller_faults) }
     ensures counted { OnOk result
         (CountsOn slots.old.items slots.new.items (O.outer outside.old) (O.outer outside.new)) }
-    ensures timers { reactor.new.core.made ≡ reactor.old.core.made }
+    ensures timers { MadeTold reactor.old.core reactor.new.core ((O.outer outside.old).events)
+        ((O.outer outside.new).events) }
     ensures keeps { (room : ℕ) → Keeps (part.All room) (O.outer outside.old) (O.outer outside.new) }
     ensures reports { reactor.new.events ≡ reactor.old.events }
 {
@@ -155,7 +162,7 @@ fn visit_slot<O: Wire + Registrar>(
 }
 
 /// Visits the sessions of these wires, which sleep, in order.
-fn visit_woken<O: Wire + Registrar>(
+fn visit_woken<O: Wire + Registrar + Clock + Notifier>(
     alloc: Global,
     reactor: &mut Reactor,
     outside: &mut O,
@@ -166,6 +173,7 @@ fn visit_woken<O: Wire + Registrar>(
     requires owned { Owned slots.old.items (tags reactor.old.core.sources) }
     requires stands { AllOpen slots.old.items }
     requires few { length slots.old.items < 2 ^ 32 }
+    requires alarmed { Alarmed (O.outer outside.old).moment reactor.old.core woken.now slots.old.items }
     requires rise { RisesFrom 0 woken.now }
     requires registered { HaveWires woken.now (tags reactor.old.core.sources) }
     ensures went { OnOk result
@@ -174,6 +182,8 @@ fn visit_woken<O: Wire + Registrar>(
     ensures rests { OnOk result (IsBetweenCalls reactor.new.core) }
     ensures stands { OnOk result (AllOpen slots.new.items) }
     ensures owned { Owned slots.new.items (tags reactor.new.core.sources) }
+    ensures alarmed { OnOk result
+        (Alarmed (O.outer outside.new).moment reactor.new.core [] slots.new.items) }
     ensures len { length slots.new.items ≡ length slots.old.items }
     ensures told { OnOk result
         ((more : List Event)
@@ -186,7 +196,8 @@ fn visit_woken<O: Wire + Registrar>(
     ensures cause { VisitsCounted result ((O.outer outside.old).poller_faults) ((O.outer outside.new).poller_faults) }
     ensures counted { OnOk result
         (CountsOn slots.old.items slots.new.items (O.outer outside.old) (O.outer outside.new)) }
-    ensures timers { reactor.new.core.made ≡ reactor.old.core.made }
+    ensures timers { MadeTold reactor.old.core reactor.new.core ((O.outer outside.old).events)
+        ((O.outer outside.new).events) }
     ensures keeps { (room : ℕ) → Keeps (part.All room) (O.outer outside.old) (O.outer outside.new) }
     ensures reports { reactor.new.events ≡ reactor.old.events }
 {
@@ -205,6 +216,7 @@ fn go_round<O: Outside>(
 ) -> Result<(), OpenError>
     requires rests { IsBetweenCalls reactor.old.core }
     requires owned { Owned slots.old.items (tags reactor.old.core.sources) }
+    requires alarmed { Alarmed (O.outer outside.old).moment reactor.old.core [] slots.old.items }
     requires stands { AllOpen slots.old.items }
     requires few { length slots.old.items < 2 ^ 32 }
     ensures went { OnOk result
@@ -213,6 +225,8 @@ fn go_round<O: Outside>(
     ensures rests { OnOk result (IsBetweenCalls reactor.new.core) }
     ensures stands { OnOk result (AllOpen slots.new.items) }
     ensures owned { Owned slots.new.items (tags reactor.new.core.sources) }
+    ensures alarmed { OnOk result
+        (Alarmed (O.outer outside.new).moment reactor.new.core [] slots.new.items) }
     ensures len { length slots.new.items ≡ length slots.old.items }
     ensures told { OnOk result
         ((more : List Event)
@@ -228,7 +242,8 @@ fn go_round<O: Outside>(
     ensures cause { OpenCounted result ((O.outer outside.old).poller_faults) ((O.outer outside.new).poller_faults) }
     ensures counted { OnOk result
         (CountsOn slots.old.items slots.new.items (O.outer outside.old) (O.outer outside.new)) }
-    ensures timers { reactor.new.core.made ≡ reactor.old.core.made }
+    ensures timers { MadeTold reactor.old.core reactor.new.core ((O.outer outside.old).events)
+        ((O.outer outside.new).events) }
     ensures keeps { Keeps (part.All reactor.old.events) (O.outer outside.old) (O.outer outside.new) }
     ensures reports { reactor.new.events ≡ reactor.old.events }
 {
@@ -246,6 +261,7 @@ pub(crate) fn go_rounds<O: Outside>(
 ) -> Result<(), OpenError>
     requires rests { IsBetweenCalls reactor.old.core }
     requires owned { Owned slots.old.items (tags reactor.old.core.sources) }
+    requires alarmed { Alarmed (O.outer outside.old).moment reactor.old.core [] slots.old.items }
     requires stands { AllOpen slots.old.items }
     requires few { length slots.old.items < 2 ^ 32 }
     ensures went { OnOk result
@@ -264,7 +280,8 @@ pub(crate) fn go_rounds<O: Outside>(
     ensures cause { OpenCounted result ((O.outer outside.old).poller_faults) ((O.outer outside.new).poller_faults) }
     ensures counted { OnOk result
         (CountsOn slots.old.items slots.new.items (O.outer outside.old) (O.outer outside.new)) }
-    ensures timers { reactor.new.core.made ≡ reactor.old.core.made }
+    ensures timers { MadeTold reactor.old.core reactor.new.core ((O.outer outside.old).events)
+        ((O.outer outside.new).events) }
     ensures keeps { Keeps (part.All reactor.old.events) (O.outer outside.old) (O.outer outside.new) }
     ensures reports { reactor.new.events ≡ reactor.old.events }
 {

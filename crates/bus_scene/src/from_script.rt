@@ -5,7 +5,6 @@ ghost use Rattle.std.specs.List.{list_all};
 ghost use Rattle.bus_script.specs.Script.{Script, script};
 ghost use Rattle.bus_script.specs.Reading.{FailsAt};
 ghost use Rattle.bus_scene.specs.Queues.{queues};
-ghost use Rattle.bus_session.specs.Sessions.{is_built};
 ghost use Rattle.bus_scene.specs.Reading.{IsOf};
 
 use crate::queues::QueuedAnswers;
@@ -48,7 +47,6 @@ impl Scene {
     pub fn from_script(alloc: Global, text: &[u8], form: ScriptForm) -> Result<Played, ScriptError>
         ensures script { IfOk result (λ played. (s : Script) × (script form text.now ≡ Ok s) × IsOf s played) }
         ensures refused { IfErr result (λ e. FailsAt e (script form text.now)) }
-        ensures built { IfOk result (λ played. list_all is_built played.sessions.items ≡ true) }
         ensures few { IfOk result (λ played. length played.sessions.items < 2 ^ 32) }
     {
         let parts = read(alloc, text, form)?.into_parts();

@@ -7,16 +7,15 @@ use Rattle.std.proofs.lemmas.List.Elements.{All-append}
 use Rattle.std.proofs.lemmas.List.Sums.{AllPass-from_list_all}
 use borrow.Author.Tests.{ltb-false}
 use Rattle.bus_script.specs.Words.{◌>>=◌, words_of}
-use Rattle.bus_session.specs.Sessions.{is_built}
-use Rattle.bus_script.specs.Forms.{line_of, is_built_line}
+use Rattle.bus_script.specs.Forms.{line_of}
 use Rattle.bus_script.specs.declared.reading.ScriptForm.{ScriptForm}
 use Rattle.bus_script.specs.declared.reading.ScriptForm.TheVariants as script_forms
-use Rattle.bus_script.specs.Script.{Script, add, read_line, read_lines, at_line, is_allowed, allowed, line_in, built, names_sessions, has_more, later, latest, lines_in, script, empty}
+use Rattle.bus_script.specs.Script.{Script, add, read_line, read_lines, at_line, is_allowed, allowed, line_in, names_sessions, has_more, later, latest, lines_in, script, empty}
 use Rattle.bus_script.specs.Reading.{GivesAt}
-use Rattle.bus_script.specs.Laws.{HasBuiltSessions, HasForm, NamesItsSessions, IsForward}
+use Rattle.bus_script.specs.Laws.{HasForm, NamesItsSessions, IsForward}
 use Rattle.bus_script.specs.declared.reading.ScriptError.{ScriptError}
 use Rattle.bus_script.specs.declared.line.Reason.{Reason}
-use Rattle.bus_script.specs.declared.line.Reason.TheVariants.{NotBuilt, Order, Session, Clock, Form}
+use Rattle.bus_script.specs.declared.line.Reason.TheVariants.{Order, Session, Clock, Form}
 use Rattle.bus_script.specs.declared.line.Answer.{Answer}
 use Rattle.bus_script.specs.declared.line.Answer.TheVariants as answers
 use Rattle.bus_script.specs.declared.line.Line.{Line}
@@ -25,7 +24,6 @@ use Rattle.bus_script.proofs.Shape.{guard_ok, guard_more, bind_ok, at_ok, or_fal
 
 record Sound (form : ScriptForm) (s : Script) : Type 0 where
   has_form : HasForm form s
-  sessions : HasBuiltSessions s
   names : NamesItsSessions s
   forward : IsForward 0 s.answers
 
@@ -50,20 +48,12 @@ guard_if : {A E : Type 0} (b : Bool) (e : E) (x y : A) → cond b (Ok x) (Err e)
 guard_if true e x y h = (refl, cc)
 guard_if false e x y h = absurd (cc)
 
-built_line : (r : Result Line Reason) (line : Line) → (r >>= built) ≡ Ok line → is_built_line line ≡ true
-built_line r line h =
-    let b = bind_ok r built line h in
-    let p = guard_if (is_built_line b.0) NotBuilt b.0 line b.2 in
-    subst (λ (l : Line). is_built_line l ≡ true) p.1 p.0
-
-allowed_line : (form : ScriptForm) (words : List (List ℕ)) (line : Line) → (line_in form words >>= built) ≡ Ok line →
+allowed_line : (form : ScriptForm) (words : List (List ℕ)) (line : Line) → line_in form words ≡ Ok line →
     is_allowed form line ≡ true
 allowed_line form words line h =
-    let b = bind_ok (line_in form words) built line h in
-    let p = guard_if (is_built_line b.0) NotBuilt b.0 line b.2 in
-    let a = bind_ok (line_of words) (allowed form) b.0 b.1 in
-    let q = guard_if (is_allowed form a.0) Form a.0 b.0 a.2 in
-    subst (λ (l : Line). is_allowed form l ≡ true) (q.1 ∙ p.1) q.0
+    let a = bind_ok (line_of words) (allowed form) line h in
+    let q = guard_if (is_allowed form a.0) Form a.0 line a.2 in
+    subst (λ (l : Line). is_allowed form l ≡ true) q.1 q.0
 
 form_kept : (form : ScriptForm) (s s' : Script) → s'.start ≡ s.start → s'.answers ≡ s.answers → HasForm form s →
     HasForm form s'
@@ -88,27 +78,25 @@ form_empty script_forms.Play = tt
 form_empty script_forms.Open = (refl, refl)
 
 add_sound : (form : ScriptForm) (s s' : Script) (line : Line) → is_allowed form line ≡ true →
-    is_built_line line ≡ true → Sound form s → add s line ≡ Ok s' → Sound form s'
-unfolding add is_built_line
-add_sound form s s' (lines.Rounds n) may good sound h =
+    Sound form s → add s line ≡ Ok s' → Sound form s'
+unfolding add
+add_sound form s s' (lines.Rounds n) may sound h =
     let p = guard_ok (is_some s.rounds) Order (record s { rounds = Some n }) s' h in
     subst (Sound form) p.1 (record {
       has_form = form_kept form s (record s { rounds = Some n }) refl refl sound.has_form;
-      sessions = sound.sessions;
       names = sound.names;
       forward = sound.forward;
     })
-add_sound form s s' (lines.Start tick timer) may good sound h =
+add_sound form s s' (lines.Start tick timer) may sound h =
     let p = guard_ok (is_none s.rounds || has_more s) Order (record s {
       start = Some (record { tick = tick; timer = timer });
     }) s' h in
     subst (Sound form) p.1 (record {
       has_form = form_started form (record s { start = Some (record { tick = tick; timer = timer }) }) tick timer may;
-      sessions = sound.sessions;
       names = sound.names;
       forward = sound.forward;
     })
-add_sound form s s' (lines.Session l) may good sound h =
+add_sound form s s' (lines.Session l) may sound h =
     let p = guard_ok (is_none s.rounds || nat_lt 0 (length s.answers)) Order (record s {
       sessions = s.sessions ++ l ∷ [];
     }) s' h in
@@ -118,11 +106,10 @@ add_sound form s s' (lines.Session l) may good sound h =
     rw none (none_pass (λ a. names_sessions (length (s.sessions ++ l ∷ [])) a)) in
     subst (Sound form) p.1 (record {
       has_form = form_kept form s (record s { sessions = s.sessions ++ l ∷ [] }) refl refl sound.has_form;
-      sessions = push_pass is_built s.sessions l sound.sessions good;
       names = named;
       forward = sound.forward;
     })
-add_sound form s s' (lines.Answer a) may good sound h =
+add_sound form s s' (lines.Answer a) may sound h =
     let p = guard_more (is_none s.rounds) Order (cond (not (names_sessions (length s.sessions) a)) (Err Session)
     (cond (nat_lt (later (latest s.answers) a) (latest s.answers)) (Err Clock)
     (Ok (record s { answers = s.answers ++ a ∷ [] })))) s' h in
@@ -136,7 +123,6 @@ add_sound form s s' (lines.Answer a) may good sound h =
     ltb-false (later (latest s.answers) a) (latest s.answers) r.0 in
     subst (Sound form) r.1 (record {
       has_form = form_answered form (record s { answers = s.answers ++ a ∷ [] }) a may;
-      sessions = sound.sessions;
       names = push_pass (λ b. names_sessions (length s.sessions) b) s.answers a sound.names named;
       forward = push_forward 0 s.answers a sound.forward later_on;
     })
@@ -150,14 +136,12 @@ lines_sound form n s s' (text ∷ texts) sound h =
     elim (read_step form s b.0 text (at_ok n (read_line form s text) b.0 b.1)) [
       | inl skipped ↦ lines_sound form (n + 1) s s' texts sound (rw skipped.1 b.2)
       | inr taken ↦ lines_sound form (n + 1) b.0 s' texts (add_sound form s b.0 taken.1.0
-          (allowed_line form (words_of text) taken.1.0 taken.1.1)
-          (built_line (line_in form (words_of text)) taken.1.0 taken.1.1) sound taken.1.2) b.2
+          (allowed_line form (words_of text) taken.1.0 taken.1.1) sound taken.1.2) b.2
     ]
 
 script_sound : (form : ScriptForm) (text : List ℕ) (s : Script) → script form text ≡ Ok s → Sound form s
 script_sound form text s h = lines_sound form 1 empty s (lines_in text) (record {
   has_form = form_empty form;
-  sessions = none_pass is_built;
   names = none_pass (λ a. names_sessions 0 a);
   forward = tt;
 }) (script_lines form text s h)
@@ -170,10 +154,6 @@ sound_if form text (Err e) h = tt
 if_ok : {E : Type 0} (P Q : Script → Type 0) (r : Result Script E) → ((s : Script) → P s → Q s) → IfOk r P → IfOk r Q
 if_ok P Q (Ok s) f h = f s h
 if_ok P Q (Err e) f h = tt
-
-pub sessions_built : (form : ScriptForm) (text : List ℕ) (r : Result Script ScriptError) →
-    GivesAt r (script form text) → IfOk r HasBuiltSessions
-sessions_built form text r h = if_ok (Sound form) HasBuiltSessions r (λ s sound. sound.sessions) (sound_if form text r h)
 
 pub has_form : (form : ScriptForm) (text : List ℕ) (r : Result Script ScriptError) →
     GivesAt r (script form text) → IfOk r (HasForm form)

@@ -7,7 +7,7 @@ use Rattle.std.proofs.lemmas.List.{map-append, append-nil}
 use borrow.Author.Tests.{ltb-false}
 use Rattle.bus_script.specs.Words.{◌>>=◌, words_of}
 use Rattle.bus_script.specs.declared.reading.ScriptForm.{ScriptForm}
-use Rattle.bus_script.specs.Script.{Script, add, read_line, read_lines, at_line, is_skipped, line_in, built, names_sessions, has_more, later, latest, lines_in, whole, script, empty}
+use Rattle.bus_script.specs.Script.{Script, add, read_line, read_lines, at_line, is_skipped, line_in, names_sessions, has_more, later, latest, lines_in, whole, script, empty}
 use Rattle.bus_script.specs.Reading.{GivesAt}
 use Rattle.bus_script.specs.declared.reading.ScriptError.{ScriptError}
 use Rattle.std.specs.Str.{is_utf8}
@@ -110,15 +110,15 @@ add_shape s s' (lines.Answer a) reached h =
     )
 
 step : (form : ScriptForm) (s s' : Script) (text : List ℕ) (b : Bool) → is_skipped text ≡ b →
-    cond b (Ok s) ((line_in form (words_of text) >>= built) >>= add s) ≡ Ok s' →
+    cond b (Ok s) (line_in form (words_of text) >>= add s) ≡ Ok s' →
     ((is_skipped text ≡ true) × (s ≡ s')) ⊎ ((is_skipped text ≡ false)
-    × ((line : Line) × ((line_in form (words_of text) >>= built) ≡ Ok line) × (add s line ≡ Ok s')))
+    × ((line : Line) × (line_in form (words_of text) ≡ Ok line) × (add s line ≡ Ok s')))
 step form s s' text true e h = inl (e, cc)
-step form s s' text false e h = inr (e, bind_ok (line_in form (words_of text) >>= built) (add s) s' h)
+step form s s' text false e h = inr (e, bind_ok (line_in form (words_of text)) (add s) s' h)
 
 pub read_step : (form : ScriptForm) (s s' : Script) (text : List ℕ) → read_line form s text ≡ Ok s' →
     ((is_skipped text ≡ true) × (s ≡ s')) ⊎ ((is_skipped text ≡ false)
-    × ((line : Line) × ((line_in form (words_of text) >>= built) ≡ Ok line) × (add s line ≡ Ok s')))
+    × ((line : Line) × (line_in form (words_of text) ≡ Ok line) × (add s line ≡ Ok s')))
 unfolding read_line
 read_step form s s' text h = step form s s' text (is_skipped text) refl h
 

@@ -17,7 +17,6 @@ use Rattle.bus_address.specs.Guid.{guid}
 use Rattle.bus_opening.specs.Mechanisms.{mechanism}
 use Rattle.bus_opening.specs.declared.mechanism.AuthMechanism.{AuthMechanism}
 use Rattle.bus_session.specs.declared.session.Party.TheVariants as parties
-use Rattle.bus_session.specs.Sessions.{is_built}
 use Rattle.bus_script.specs.Words.{◌>>=◌, ◌is◌, parts_of, number, flag, optional, or_form, bytes}
 use Rattle.bus_script.specs.declared.line.Reason.{Reason}
 use Rattle.bus_script.specs.declared.line.Reason.TheVariants.{Form}
@@ -282,8 +281,3 @@ line_with word rest =
 abbrev pub line_of : List (List ℕ) → Result Line Reason
 line_of [] = Err Form
 line_of (word ∷ rest) = line_with word rest
-
--- the forms that are built
-unfoldable pub is_built_line : Line → Bool
-is_built_line (lines.Session session) = is_built session
-is_built_line _ = true

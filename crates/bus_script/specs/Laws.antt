@@ -1,7 +1,6 @@
 -- What holds of each script that is read.
 use Rattle.std.specs.Prelude.{◌≡◌, ℕ, ◌≤◌, List, [], ◌∷◌, length, None}
 use Rattle.std.specs.List.{AllPass}
-use Rattle.bus_session.specs.Sessions.{is_built}
 use Rattle.bus_script.specs.Script.{Script, names_sessions}
 use Rattle.bus_script.specs.declared.reading.ScriptForm.{ScriptForm}
 use Rattle.bus_script.specs.declared.reading.ScriptForm.TheVariants as script_forms
@@ -12,10 +11,6 @@ use Rattle.bus_script.specs.declared.line.Answer.TheVariants as answers
 abbrev pub HasForm : ScriptForm → Script → Type 0
 HasForm script_forms.Play s = Unit {0}
 HasForm script_forms.Open s = (s.start ≡ None) × (s.answers ≡ [])
-
--- each session has a form that is built
-abbrev pub HasBuiltSessions : Script → Type 0
-HasBuiltSessions s = AllPass is_built s.sessions
 
 -- the sessions that the answers name are there
 abbrev pub NamesItsSessions : Script → Type 0

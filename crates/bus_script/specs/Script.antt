@@ -7,7 +7,7 @@ use Rattle.bus_session.specs.declared.session.Session.{Session}
 use Rattle.bus_script.specs.Words.{◌>>=◌, parts_of, words_of}
 use Rattle.bus_script.specs.declared.reading.ScriptForm.{ScriptForm}
 use Rattle.bus_script.specs.declared.reading.ScriptForm.TheVariants as script_forms
-use Rattle.bus_script.specs.Forms.{line_of, is_built_line}
+use Rattle.bus_script.specs.Forms.{line_of}
 use Rattle.bus_script.specs.declared.line.Reason.{Reason}
 use Rattle.bus_script.specs.declared.line.Reason.TheVariants as reasons
 use Rattle.bus_script.specs.declared.line.Start.{Start}
@@ -98,11 +98,8 @@ allowed form line = if is_allowed form line then Ok line else Err reasons.Form
 abbrev pub line_in : ScriptForm → List (List ℕ) → Result Line Reason
 line_in form words = line_of words >>= allowed form
 
-abbrev pub built : Line → Result Line Reason
-built line = if is_built_line line then Ok line else Err reasons.NotBuilt
-
 unfoldable pub read_line : ScriptForm → Script → List ℕ → Result Script Reason
-read_line form s line = if is_skipped line then Ok s else ((line_in form (words_of line) >>= built) >>= add s)
+read_line form s line = if is_skipped line then Ok s else (line_in form (words_of line) >>= add s)
 
 abbrev pub at_line : {X : Type 0} → ℕ → Result X Reason → Result X Refused
 at_line n (Ok x) = Ok x

@@ -1,7 +1,7 @@
 -- The lines of a script that is read, as one list.
 use Rattle.std.specs.Prelude.{◌≡◌, ℕ, true, false, List, [], ◌∷◌, ◌++◌, map, Option, Some, None, Ok, ◌⊎◌}
 use Rattle.bus_script.specs.Words.{◌>>=◌, words_of}
-use Rattle.bus_script.specs.Script.{Script, is_skipped, line_in, built}
+use Rattle.bus_script.specs.Script.{Script, is_skipped, line_in}
 use Rattle.bus_script.specs.declared.reading.ScriptForm.{ScriptForm}
 use Rattle.bus_script.specs.declared.line.Start.{Start}
 use Rattle.bus_script.specs.declared.line.Line.{Line}
@@ -12,7 +12,7 @@ abbrev pub Say : ScriptForm → List (List ℕ) → List Line → Type 0
 Say form [] said = said ≡ []
 Say form (text ∷ texts) said = ((is_skipped text ≡ true) × Say form texts said)
     ⊎ ((is_skipped text ≡ false) × ((line : Line) × (rest : List Line) × (said ≡ line ∷ rest)
-    × ((line_in form (words_of text) >>= built) ≡ Ok line) × Say form texts rest))
+    × (line_in form (words_of text) ≡ Ok line) × Say form texts rest))
 
 abbrev pub rounds_lines : Option ℕ → List Line
 rounds_lines None = []

@@ -2,10 +2,9 @@
 
 ghost use Rattle.std.specs.Prelude.{◌≡◌, ◌≤◌, ◌<◌, ◌^◌, List, length, IfOk, Some, Ok};
 ghost use Rattle.std.specs.List.{list_all};
-ghost use Rattle.bus_script.specs.Forms.{is_built_line};
 ghost use Rattle.bus_script.specs.Reading.{Steps, StepsAt, GivesAt, CutsLine};
 ghost use Rattle.bus_script.specs.Shape.{Say, lines_of};
-ghost use Rattle.bus_script.specs.Laws.{HasBuiltSessions, HasForm, NamesItsSessions, IsForward};
+ghost use Rattle.bus_script.specs.Laws.{HasForm, NamesItsSessions, IsForward};
 ghost use Rattle.bus_script.specs.Script.{Script, start_of, latest, later, add, is_there, names_sessions, has_more};
 ghost use Rattle.bus_script.specs.Script.{empty, read_line, at_line, read_lines, whole, script, lines_in, is_skipped};
 ghost use Rattle.bus_script.specs.Script.{is_allowed};
@@ -254,9 +253,6 @@ impl Draft {
         if !is_allowed(form, &said) {
             return Err(LineError::Refused(Reason::Form));
         }
-        if !is_built_line(&said) {
-            return Err(LineError::Refused(Reason::NotBuilt));
-        }
         self.add(said)
     }
 
@@ -315,17 +311,6 @@ fn is_allowed(form: ScriptForm, line: &Line) -> bool
     }
 }
 
-/// Whether the line has a form that is built.
-#[tactic(auto, unfolding(crate::specs::Forms::is_built_line))]
-fn is_built_line(line: &Line) -> bool
-    ensures { result ≡ is_built_line line.now }
-{
-    match line {
-        Line::Session(session) => session.is_built(),
-        _ => true,
-    }
-}
-
 /// The first line and what follows its line feed, where there is one.
 #[tactic(auto, using(crate::proofs::Lines::cut_line))]
 fn first_line(text: &str) -> Option<(&str, &str)>
@@ -375,14 +360,13 @@ fn read_exact(alloc: Global, form: ScriptForm, bytes: &[u8]) -> Result<Script, S
 /// Reads the script that the bytes spell, for a command that reads one.
 ///
 /// A text that spells none is refused with the number of its first bad line and the reason.
-#[tactic(auto, using(crate::proofs::Shape::read_says, crate::proofs::Laws::sessions_built, crate::proofs::Laws::has_form, crate::proofs::Laws::sessions_named, crate::proofs::Laws::is_forward, crate::proofs::Few::sessions_few))]
+#[tactic(auto, using(crate::proofs::Shape::read_says, crate::proofs::Laws::has_form, crate::proofs::Laws::sessions_named, crate::proofs::Laws::is_forward, crate::proofs::Few::sessions_few))]
 pub fn read(alloc: Global, text: &[u8], form: ScriptForm) -> Result<Script, ScriptError>
     ensures exact { GivesAt result (script form text.now) }
     // Its lines say the rounds, then the start, then the sessions, then the answers, and nothing else.
     ensures in_order { IfOk result (λ s. Say form (lines_in text.now) (lines_of s)) }
     // For `open` it has neither a start nor answers.
     ensures form { IfOk result (HasForm form) }
-    ensures built_sessions { IfOk result HasBuiltSessions }
     ensures few { IfOk result (λ s. length s.sessions < 2 ^ 32) }
     // Each answer that names a session names one that is there.
     ensures named { IfOk result NamesItsSessions }

@@ -41,7 +41,7 @@ fn whole_scripts_are_read_or_refused_at_their_first_bad_line(rt: HostRuntime) ->
         ("notify ok\nrounds 1", "refused 1 order\n"),
         (
             "client EXTERNAL 1000 - n 9 unix:path=/run/a\nrounds 1",
-            "refused 1 not-built\n",
+            "refused 1 order\n",
         ),
         ("rounds 0\nnow 5\nnow 4", "refused 3 clock\n"),
         ("rounds 1\nstart 18446744073709551615 0", ""),
@@ -54,10 +54,7 @@ fn whole_scripts_are_read_or_refused_at_their_first_bad_line(rt: HostRuntime) ->
         ("rounds 18446744073709551615", ""),
         ("rounds 18446744073709551616", "refused 1 form\n"),
         ("rounds 1\nclient ANONYMOUS 1000 - n - unix:path=/run/a", ""),
-        (
-            "rounds 1\nclient EXTERNAL 1000 - n 9 unix:path=/run/a",
-            "refused 2 not-built\n",
-        ),
+        ("rounds 1\nclient EXTERNAL 1000 - n 9 unix:path=/run/a", ""),
         (
             "rounds 1\nclient EXTERNAL 1 - n - unix:path=/a\nrecv 0 end\nclient EXTERNAL 1 - n - unix:path=/a",
             "refused 4 order\n",
@@ -84,7 +81,7 @@ fn a_script_may_have_16777216_bytes(rt: HostRuntime) -> Result<(), Fail> {
 }
 
 #[test]
-fn each_form_of_a_line_is_read_refused_or_not_built(rt: HostRuntime) -> Result<(), Fail> {
+fn each_form_of_a_line_is_read_or_refused(rt: HostRuntime) -> Result<(), Fail> {
     let built = [
         "",
         "# recv 9 what",
@@ -124,8 +121,6 @@ fn each_form_of_a_line_is_read_refused_or_not_built(rt: HostRuntime) -> Result<(
         "client EXTERNAL 1000 - n -  unix:path=/run/a",
         "server 1234DEADbeef1234deadbeef12345678 EXTERNAL 1000 -",
         "server 1234deadbeef1234deadbeef12345678 ANONYMOUS - -",
-    ];
-    let not_built = [
         "client - 0 . y 5 ",
         "client EXTERNAL 1000 - n 50 unix:path=/run/a",
         "server 1234deadbeef1234deadbeef12345678 ANONYMOUS - 5",
@@ -200,7 +195,6 @@ fn each_form_of_a_line_is_read_refused_or_not_built(rt: HostRuntime) -> Result<(
     ];
     let alloc = rt.alloc();
     assert!(rt; first_other(alloc, &built, "")?.is_none());
-    assert!(rt; first_other(alloc, &not_built, "refused 3 not-built\n")?.is_none());
     assert!(rt; first_other(alloc, &formless, "refused 3 form\n")?.is_none());
     assert!(rt; first_other(alloc, &sessions, "refused 3 session\n")?.is_none());
     Ok(())
@@ -218,7 +212,7 @@ fn first_other(alloc: Global, lines: &[&str], wanted: &str) -> Result<Option<Str
     Ok(None)
 }
 
-/// The lines one after another, built or not: nothing, or the first refusal.
+/// The lines one after another: nothing, or the first refusal.
 fn drafted(alloc: Global, lines: &[&str]) -> Result<Option<Reason>, Fail> {
     let mut draft = Draft::new(alloc);
     for line in lines {
@@ -236,9 +230,7 @@ fn drafted(alloc: Global, lines: &[&str]) -> Result<Option<Reason>, Fail> {
 }
 
 #[test]
-fn lines_that_are_not_built_have_their_order_session_and_clock_too(
-    rt: HostRuntime,
-) -> Result<(), Fail> {
+fn lines_have_their_order_session_and_clock(rt: HostRuntime) -> Result<(), Fail> {
     let server = "server 1234deadbeef1234deadbeef12345678 EXTERNAL 1000 -";
     let rows: [(&[&str], Option<Reason>); 11] = [
         (&["rounds 0", "now 5", "now 4"], Some(Reason::Clock)),

@@ -1,5 +1,5 @@
-pub mod Sessions
 pub mod Parts
+pub mod Counts
 pub mod Outcomes
 pub mod Dialling
 pub mod Alone

@@ -24,8 +24,6 @@ pub struct Session {
 }
 
 impl Session {
-    ghost use Rattle.bus_session.specs.Sessions.{is_built};
-
     /// A client's session.
     pub fn client(address: String, config: ClientConfig, deadline: Option<u64>) -> Session
         ensures value { result ≡ record { party = party.Client (string_bytes address) config; deadline = deadline } }
@@ -47,12 +45,5 @@ impl Session {
             party: Party::Server(config),
             deadline,
         }
-    }
-
-    /// Whether `open_all` takes the session: one without a deadline.
-    pub fn is_built(&self) -> bool
-        ensures value { result ≡ is_built self.now }
-    {
-        self.deadline.is_none()
     }
 }

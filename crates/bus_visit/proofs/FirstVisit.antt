@@ -1,5 +1,5 @@
 -- A first visit: a wire was opened, and its source is added.
-use Rattle.std.proofs.Common.{◌≡◌, ◌<◌, ◌^◌, ℕ, Bool, true, false, nat_lt, List, [], ◌∷◌, map, Option, None, Result, Ok, Err, IfOk, OnErr, refl, sym, ◌∙◌, ap, subst, arith}
+use Rattle.std.proofs.Common.{◌≡◌, ◌<◌, ◌^◌, ℕ, Bool, true, false, nat_lt, List, [], ◌∷◌, map, Option, Some, None, ◌≢◌, Result, Ok, Err, IfOk, OnErr, refl, sym, ◌∙◌, ap, subst, arith}
 use Rattle.std.specs.Option.{option_map}
 use Rattle.react_core.specs.Places.{Source}
 use Rattle.react_core.specs.declared.outside.Event.{Event}
@@ -27,12 +27,18 @@ use Rattle.bus_visit.specs.Conversed.{is_awake}
 use Rattle.bus_visit.specs.Dialled.{Answered, dials_of, DialsTo, as_opened, as_dialling}
 use Rattle.bus_visit.specs.Registry.{Idle, held_at, with_held}
 use Rattle.bus_visit.specs.Shown.{AllSane, IsBetweenCalls, shown, Tags, tags, tag_at, without_tag, has_wire, Single}
-use Rattle.bus_visit.specs.Visited.{KeepsCall, MakesRegisteredVisit, Registers, FirstTags, FirstVisits, undialled, dialled}
-use Rattle.bus_visit.specs.Failing.{IfPoller, RegisteredVisitFails, OpenedFails, unregistered, registered, FirstVisitFails}
+use Rattle.bus_visit.specs.declared.timing.Limit.{Limit}
+use Rattle.bus_visit.specs.Visited.{KeepsCall}
+use Rattle.bus_visit.specs.Timed.{limit_of, MakesVisit}
+use Rattle.bus_visit.specs.First.{Registers, FirstTags, FirstVisits, undialled, dialled}
+use Rattle.bus_visit.specs.Failing.{IfPoller, VisitFails, VisitRunsOut, RegisteredThen, RegisteredRunsOut, OpenedFails}
+use Rattle.bus_visit.specs.Failing.{unregistered, registered, FirstVisitFails, FirstVisitRunsOut}
+use Rattle.bus_visit.proofs.TimedVisits.{visit-tags, visit-key, visit-kept}
 use Rattle.bus_visit.specs.Noted.{Holds}
-use Rattle.bus_visit.specs.laws.Dials.{dials-waits}
+use Rattle.bus_visit.specs.laws.Dials.{dials-unnumbered}
 use Rattle.bus_visit.specs.laws.Sources.{held_at-shown, with_new-shown}
-use Rattle.bus_visit.proofs.TurnLemmas.{keeps-after}
+use Rattle.bus_visit.specs.laws.Records.{unnumbered-waits, unnumbered-notices}
+use Rattle.bus_visit.proofs.TurnLemmas.{keeps-after, keeps-unnumbered}
 use Rattle.bus_visit.proofs.NewTags.{with_tag, tags-with_new, source-no_tag, tag_at-with, other_tag-with, other_wire-with, single-with, without-with}
 use Rattle.bus_visit.specs.laws.Tags.{tag-held, single-distinct, distinct-single}
 
@@ -78,7 +84,6 @@ module _ (old mid : Core) (wire key : ℕ) (free : source_of old.sources key ≡
         sane = subst R (sym is) (sane-new old.ticker old.ticker key wire old.sources rests.sane);
         distinct = single-distinct mid.sources (subst S (sym tags-inserted) (single-with (tags old.sources) key wire new (distinct-single old.sources rests.distinct)));
         idle = ap (λ x. x.hands) is ∙ rests.idle;
-        timeless = ap timers_applied is ∙ rests.timeless;
         fits = subst F (sym is) rests.fits;
       }
 
@@ -91,31 +96,44 @@ module _ (old mid : Core) (wire key : ℕ) (free : source_of old.sources key ≡
       KeepsCall (without_tag (tags mid.sources) key) r1 r2 mid new → KeepsCall (tags old.sources) r0 r2 old new
   inserted-keeps r0 r1 r2 new added keeps =
       let K : Tags → Type 0 = λ ts. KeepsCall ts r1 r2 mid new in
-      keeps-after (tags old.sources) r0 r1 r2 old mid new (event.Add wire key true ∷ []) added refl (ap (λ c. c.ticker) is) (ap (λ c. c.made) is) (subst K tags-back keeps)
+      keeps-after (tags old.sources) r0 r1 r2 old mid new (event.Add wire key true ∷ []) added refl (ap (λ c. c.ticker) is)
+      (omega (arith, ap (λ c. c.made) is)) (subst K tags-back keeps)
 
-  pub inserted-tags : (r1 r2 : Option (List Event)) (new : Core) (client : Opening) (c : Slot) →
-      has_wire wire (tags old.sources) ≡ false → MakesRegisteredVisit wire key r1 r2 mid new client c →
-      FirstTags wire (tags old.sources) (tags new.sources) c
-  inserted-tags r1 r2 new client (slot.Ended e) new_wire (h, h', calls, o, x) = x.tags ∙ tags-back
-  inserted-tags r1 r2 new client (slot.Asleep sl) new_wire (h, h', calls, o, x) =
+  tags-asleep : (key' : ℕ) (new : Core) → key' ≡ key → has_wire wire (tags old.sources) ≡ false →
+      tags new.sources ≡ tags mid.sources → (tag_at (tags old.sources) key' ≡ None)
+      × (tag_at (tags new.sources) key' ≡ Some wire)
+      × ((k : ℕ) → k ≢ key' → tag_at (tags new.sources) k ≡ tag_at (tags old.sources) k)
+      × ((w : ℕ) → w ≢ wire → has_wire w (tags new.sources) ≡ has_wire w (tags old.sources))
+      × (Single (tags old.sources) → Single (tags new.sources))
+  tags-asleep key' new at new_wire same =
       let ts : Tags = tags old.sources in
       let no_tag : tag_at ts key ≡ None = source-no_tag old.sources key free in
-      let now : tags new.sources ≡ with_tag ts key wire = x.tags ∙ tags-inserted in
+      let now : tags new.sources ≡ with_tag ts key wire = same ∙ tags-inserted in
       let S : Tags → Type 0 = λ t. Single t in (
-        ap (tag_at ts) x.stays.at ∙ no_tag,
-        ap (tag_at (tags new.sources)) x.stays.at ∙ (ap (λ t. tag_at t key) now ∙ tag_at-with ts key wire no_tag),
-        λ k other. ap (λ t. tag_at t k) now ∙ other_tag-with ts key wire k (λ e. other (e ∙ sym x.stays.at)),
+        ap (tag_at ts) at ∙ no_tag,
+        ap (tag_at (tags new.sources)) at ∙ (ap (λ t. tag_at t key) now ∙ tag_at-with ts key wire no_tag),
+        λ k other. ap (λ t. tag_at t k) now ∙ other_tag-with ts key wire k (λ e. other (e ∙ sym at)),
         λ w other. ap (has_wire w) now ∙ other_wire-with ts key wire w other,
         λ single. subst S (sym now) (single-with ts key wire new_wire single),
       )
-  inserted-tags r1 r2 new client slot.Refused new_wire (h, h', calls, o, x) = absurd x.stays
+
+  pub inserted-tags : (limit : Option Limit) (r1 r2 : Option (List Event)) (new : Core) (client : Opening) (c : Slot) →
+      has_wire wire (tags old.sources) ≡ false → MakesVisit wire key limit r1 r2 mid new client c →
+      FirstTags wire (tags old.sources) (tags new.sources) c
+  inserted-tags limit r1 r2 new client (slot.Ended e) new_wire v =
+      visit-tags wire key limit r1 r2 mid new client (slot.Ended e) v ∙ tags-back
+  inserted-tags limit r1 r2 new client (slot.Asleep sl) new_wire v =
+      tags-asleep sl.key new (visit-key wire key limit r1 r2 mid new client sl v) new_wire
+      (visit-tags wire key limit r1 r2 mid new client (slot.Asleep sl) v)
+  inserted-tags limit r1 r2 new client slot.Refused new_wire v = absurd (visit-kept wire key limit r1 r2 mid new client v)
 
   pub inserted-registers : (s : Session) (wired : dialling.Opened) (r0 r1 r2 : Option (List Event)) (new : Core)
       (client : Opening) (c : Slot) → (talk : List (List ℕ) → Said) × (conversation s.party wired ≡ talk) × StandsIn
       talk [] client → client.written ≡ [] →
-      r1 ≡ told r0 (event.Add wire key true ∷ []) → MakesRegisteredVisit wire key r1 r2 mid new client c → Registers s wire wired r0 r2 old new c
+      r1 ≡ told r0 (event.Add wire key true ∷ []) → MakesVisit wire key (limit_of s.deadline) r1 r2 mid new client c →
+      Registers s wire wired r0 r2 old new c
   inserted-registers s wired r0 r1 r2 new client c (talk, begun, stands) unwritten added stays =
-      let S : Option (List Event) → Type 0 = λ r. MakesRegisteredVisit wire key r r2 mid new client c in (
+      let S : Option (List Event) → Type 0 = λ r. MakesVisit wire key (limit_of s.deadline) r r2 mid new client c in (
         talk,
         client,
         key,
@@ -127,30 +145,48 @@ module _ (old mid : Core) (wire key : ℕ) (free : source_of old.sources key ≡
           free = inserted-free;
           core = is;
           shows = inserted-shows;
-          stays = subst S added stays;
+          visits = subst S added stays;
         },
       )
 
-  -- a call of the poller failed in the visit
+  -- this came of the visit
+  inserted-then : (s : Session) (wired : dialling.Opened) (client : Opening) (P : ℕ → Core → Opening → Type 0) →
+      StandsIn (conversation s.party wired) [] client → client.written ≡ [] → P key mid client →
+      RegisteredThen s wire wired old P
+  inserted-then s wired client P stands unwritten comes = record {
+    talk = conversation s.party wired;
+    client = client;
+    key = key;
+    mid = mid;
+    begins = refl;
+    stands = stands;
+    unwritten = unwritten;
+    free = inserted-free;
+    core = is;
+    shows = inserted-shows;
+    comes = comes;
+  }
+
+  -- a call of the poller failed in it
   pub inserted-fails : (s : Session) (wired : dialling.Opened) (ample : Bool) (r0 r1 r2 : Option (List Event))
       (client : Opening) → StandsIn (conversation s.party wired) [] client → client.written ≡ [] →
-      r1 ≡ told r0 (event.Add wire key true ∷ []) → RegisteredVisitFails wire key ample r1 r2 mid client →
-      OpenedFails s wire wired ample r0 r2 old
+      r1 ≡ told r0 (event.Add wire key true ∷ []) →
+      VisitFails wire key (limit_of s.deadline) ample r1 r2 mid client → OpenedFails s wire wired ample r0 r2 old
   inserted-fails s wired ample r0 r1 r2 client stands unwritten added fails =
-      let F : Option (List Event) → Type 0 = λ r. RegisteredVisitFails wire key ample r r2 mid client in
-      registered (record {
-        talk = conversation s.party wired;
-        client = client;
-        key = key;
-        mid = mid;
-        begins = refl;
-        stands = stands;
-        unwritten = unwritten;
-        free = inserted-free;
-        core = is;
-        shows = inserted-shows;
-        fails = subst F added fails;
-      })
+      let F : Option (List Event) → Type 0 = λ r. VisitFails wire key (limit_of s.deadline) ample r r2 mid client in
+      registered (inserted-then s wired client (λ k m c. VisitFails wire k (limit_of s.deadline) ample
+      (told r0 (event.Add wire k true ∷ [])) r2 m c) stands unwritten (subst F added fails))
+
+  -- its timer had no number
+  pub inserted-runs-out : (s : Session) (wired : dialling.Opened) (ample : Bool) (r0 r1 r2 : Option (List Event))
+      (client : Opening) → StandsIn (conversation s.party wired) [] client → client.written ≡ [] →
+      r1 ≡ told r0 (event.Add wire key true ∷ []) →
+      VisitRunsOut wire key (limit_of s.deadline) ample r1 r2 mid client →
+      RegisteredRunsOut s wire wired ample r0 r2 old
+  inserted-runs-out s wired ample r0 r1 r2 client stands unwritten added out =
+      let F : Option (List Event) → Type 0 = λ r. VisitRunsOut wire key (limit_of s.deadline) ample r r2 mid client in
+      inserted-then s wired client (λ k m c. VisitRunsOut wire k (limit_of s.deadline) ample
+      (told r0 (event.Add wire k true ∷ [])) r2 m c) stands unwritten (subst F added out)
 
 -- the registration failed
 pub insert-fails : (s : Session) (wire : ℕ) (wired : dialling.Opened) (ample : Bool) (e : ReactError)
@@ -166,7 +202,7 @@ pub insert-keeps : (wire : ℕ) (e : ReactError) (r0 r1 : Option (List Event)) (
     InsertTold old wire (Err e) r0 r1 → new ≡ old → KeepsCall (tags old.sources) r0 r1 old new
 insert-keeps wire react_error.Poller r0 r1 old new rests (key, free, gained) same = (
   event.Add wire key false ∷ [],
-  record { gained = gained; waits = refl; ticker = ap (λ c. c.ticker) same; made = ap (λ c. c.made) same; tags = ap (λ c. tags c.sources) same; closed = ap (λ c. c.hands) same ∙ rests.idle },
+  record { gained = gained; waits = refl; ticker = ap (λ c. c.ticker) same; made = omega (arith, ap (λ c. c.made) same); tags = ap (λ c. tags c.sources) same; closed = ap (λ c. c.hands) same ∙ rests.idle },
 )
 insert-keeps wire react_error.OutOfMemory r0 r1 old new rests gained same = (
   [],
@@ -174,8 +210,7 @@ insert-keeps wire react_error.OutOfMemory r0 r1 old new rests gained same = (
     gained = gained ∙ told-nothing r0;
     waits = refl;
     ticker = ap (λ c. c.ticker) same;
-    made = ap (λ c. c.made)
-        same;
+    made = omega (arith, ap (λ c. c.made) same);
     tags = ap (λ c. tags c.sources) same;
     closed = ap (λ c. c.hands) same ∙ rests.idle;
   },
@@ -202,12 +237,12 @@ first-dialled s wire reached wired r0 r1 r2 old new c (dials, to) is registers =
 pub dials-keep : (wire : ℕ) (dials : List Answered) (r0 r1 : Option (List Event)) (core : Core) → IsBetweenCalls core → r1 ≡ told r0 (dials_of wire dials) →
     KeepsCall (tags core.sources) r0 r1 core core
 dials-keep wire dials r0 r1 core rests gained =
-    (dials_of wire dials, record { gained = gained; waits = dials-waits wire dials; ticker = refl; made = refl; tags = refl; closed = rests.idle })
+    (dials_of wire dials, record { gained = gained; waits = unnumbered-waits (dials_of wire dials) (dials-unnumbered wire dials); ticker = refl; made = omega (arith, unnumbered-notices (dials_of wire dials) (dials-unnumbered wire dials)); tags = refl; closed = rests.idle })
 
 pub dialled-keeps : (wire : ℕ) (dials : List Answered) (r0 r1 r2 : Option (List Event)) (old new : Core) → r1 ≡ told r0 (dials_of wire dials) →
     KeepsCall (tags old.sources) r1 r2 old new → KeepsCall (tags old.sources) r0 r2 old new
 dialled-keeps wire dials r0 r1 r2 old new gained keeps =
-    keeps-after (tags old.sources) r0 r1 r2 old old new (dials_of wire dials) gained (dials-waits wire dials) refl refl keeps
+    keeps-unnumbered (tags old.sources) r0 r1 r2 old old new (dials_of wire dials) gained (dials-unnumbered wire dials) refl refl keeps
 
 -- a call of the poller failed behind the dialling
 pub dialled-fails : (s : Session) (wire : ℕ) (reached : Reached) (wired : OpenWire) (ample : Bool)
@@ -217,4 +252,14 @@ pub dialled-fails : (s : Session) (wire : ℕ) (reached : Reached) (wired : Open
     FirstVisitFails s wire ample r0 r2 old
 dialled-fails s wire reached wired ample r0 r1 r2 old (dials, to) is fails =
     let T : Dialled → Type 0 = λ d. DialsTo wire (dialling.begins s.party) (as_dialling d) r0 r1 dials in
-    record { dials = dials; opened = as_opened wired; mid = r1; dialled = subst T is to; fails = fails }
+    record { dials = dials; opened = as_opened wired; mid = r1; dialled = subst T is to; comes = fails }
+
+-- its timer had no number
+pub dialled-runs-out : (s : Session) (wire : ℕ) (reached : Reached) (wired : OpenWire) (ample : Bool)
+    (r0 r1 r2 : Option (List Event)) (old : Core) → (dials : List Answered) ×
+    DialsTo wire (dialling.begins s.party) (as_dialling reached.dialled) r0 r1 dials →
+    reached.dialled ≡ dialleds.Opened wired → RegisteredRunsOut s wire (as_opened wired) ample r1 r2 old →
+    FirstVisitRunsOut s wire ample r0 r2 old
+dialled-runs-out s wire reached wired ample r0 r1 r2 old (dials, to) is out =
+    let T : Dialled → Type 0 = λ d. DialsTo wire (dialling.begins s.party) (as_dialling d) r0 r1 dials in
+    record { dials = dials; opened = as_opened wired; mid = r1; dialled = subst T is to; comes = out }

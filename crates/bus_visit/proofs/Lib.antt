@@ -7,5 +7,6 @@ pub mod PollAlone
 pub mod TurnLemmas
 pub mod VisitFrames
 pub mod StayLemmas
+pub mod TimedVisits
 pub mod FirstVisit
 pub mod DialLemmas

@@ -209,11 +209,11 @@ readied-at old new wire key dir answer r0 r1 s rests is own step gained =
         sane = rw (core, poll-ticker) (sane-poll old key dir s b rests.sane is);
         distinct = rw shows' (distinct-noted wire dir (map shown old.sources) rests.distinct);
         idle = rw (core, poll-hands) rests.idle;
-        timeless = ap timers_applied core ∙ poll-timers old key dir s s.wire b ∙ rests.timeless;
         fits = rw core (poll-fits old key dir s s.wire b rests.fits);
       };
       ticker = ap (λ c. c.ticker) core ∙ poll-ticker old key dir s s.wire b;
       made = ap (λ c. c.made) core ∙ poll-made old key dir s s.wire b;
+      timers = ap timers_applied core ∙ poll-timers old key dir s s.wire b;
       begun = ap (λ c. c.begun) core ∙ poll-begun old key dir s s.wire (shown_at key s) b refl rests.fits;
       tags = ap (λ c. tags c.sources) core ∙ poll-tags old key dir s s.wire b is;
     }

@@ -1,5 +1,5 @@
 -- The end of a visit: a session that sleeps, or whose source is taken out.
-use Rattle.std.proofs.Common.{◌≡◌, inl, inr, ℕ, Bool, true, false, ◌==◌, List, [], ◌∷◌, ◌++◌, map, Option, Some, None, Result, Ok, Err, refl, sym, ◌∙◌, ap, subst}
+use Rattle.std.proofs.Common.{◌≡◌, inl, inr, ℕ, Bool, true, false, ◌==◌, List, [], ◌∷◌, ◌++◌, map, Option, Some, None, Result, Ok, Err, refl, sym, ◌∙◌, ap, subst, arith}
 use Rattle.std.proofs.lemmas.List.{append-nil, append_assoc}
 use Rattle.react_core.specs.Told.{told, told-told, told-nothing}
 use Rattle.react_core.specs.Core.{Core, HasSource, removed}
@@ -16,16 +16,17 @@ use Rattle.bus_session.specs.declared.ended.Ended.{Ended}
 use Rattle.bus_visit.specs.Visited as turn_end
 use Rattle.bus_visit.specs.declared.visiting.Slot.TheVariants as slot
 use Rattle.bus_visit.specs.Registry.{Held, held_at, registry, without_held}
-use Rattle.bus_visit.specs.Counts.{waits_in}
-use Rattle.bus_visit.specs.Shown.{IsBetweenCalls, shown, tags, tag_at, without_tag, AllSane, Single}
+use Rattle.bus_visit.specs.Counts.{numbered_in}
+use Rattle.bus_visit.specs.Shown.{IsBetweenCalls, shown, tags, tag_at, without_tag}
 use Rattle.bus_visit.specs.Visited.{TurnEnd, KeepsCall, Turns, RegisteredVisit, MakesRegisteredVisit}
 use Rattle.bus_visit.specs.Failing.{TurnsFail, RemovalTold, EndFails, unarmed, undeleted, RegisteredVisitFails}
 use Rattle.bus_visit.specs.Noted.{Holds, arms_told}
-use Rattle.bus_visit.specs.laws.Records.{registry-append, waits_in-append}
+use Rattle.bus_visit.specs.laws.Records.{registry-append, numbered_in-append, unnumbered-waits, unnumbered-notices}
 use Rattle.bus_visit.specs.laws.Sources.{without-shown}
 use Rattle.bus_visit.proofs.NotReadyNotes.{held-source}
 use Rattle.bus_visit.proofs.OtherWiresStay.{without-keeps, two-keys}
-use Rattle.bus_visit.specs.laws.Tags.{tags-without, tag-has_source, tag-held, held-tag, distinct-single, single-distinct, single-without}
+use Rattle.bus_visit.specs.laws.Tags.{tags-without, tag-has_source, tag-held, held-tag}
+use Rattle.bus_visit.specs.laws.Removals.{rests-removed}
 use Rattle.bus_visit.proofs.FailureLemmas.{told-instead}
 use Rattle.bus_visit.proofs.TurnLemmas.{keeps-after}
 
@@ -33,30 +34,12 @@ use Rattle.bus_visit.proofs.TurnLemmas.{keeps-after}
 
 -- a removal tells of its Delete at most
 pub removed-told : {T : Type 0} (found : Option Source) (key : ℕ) (r : Result T ReactError) (before after : Option (List Event)) → RemoveTold found key r before after →
-    (more : List Event) × (after ≡ told before more) × (waits_in more ≡ 0)
+    (more : List Event) × (after ≡ told before more) × (numbered_in more ≡ 0)
 removed-told None key r before after h = absurd h
 removed-told (Some s) key (Ok v) before after h = (event.Delete s.wire key true ∷ [], h, refl)
 removed-told (Some s) key (Err react_error.Poller) before after h = (event.Delete s.wire key false ∷ [], h, refl)
 removed-told (Some s) key (Err react_error.OutOfMemory) before after h = ([], h ∙ told-nothing before, refl)
 removed-told (Some s) key (Err (react_error.Exhausted counter value)) before after h = absurd h
-
-sane_without_go : (r l : ℕ) (x : ℕ × Source) (sources : List (ℕ × Source)) (key : ℕ) (b : Bool) → (x.0 == key) ≡ b →
-    AllSane r l (x ∷ sources) → AllSane r l (without sources key) → AllSane r l (without (x ∷ sources) key)
-sane_without_go r l x sources key true e sane ih = rw e sane.1
-sane_without_go r l x sources key false e sane ih = rw e (sane.0, ih)
-
-pub sane-without : (r l : ℕ) (sources : List (ℕ × Source)) (key : ℕ) → AllSane r l sources → AllSane r l (without sources key)
-sane-without r l [] key sane = tt {0}
-sane-without r l (x ∷ sources) key sane = sane_without_go r l x sources key (x.0 == key) refl sane (sane-without r l sources key sane.1)
-
-pub rests-removed : (core : Core) (key : ℕ) → IsBetweenCalls core → IsBetweenCalls (removed core key)
-rests-removed core key rests = record {
-  sane = sane-without core.ticker core.ticker core.sources key rests.sane;
-  distinct = single-distinct (without core.sources key) (subst Single (sym (tags-without core.sources key)) (single-without (tags core.sources) key (distinct-single core.sources rests.distinct)));
-  idle = rests.idle;
-  timeless = rests.timeless;
-  fits = rests.fits;
-}
 
 -- the key's source is still there where no tag changed
 pub kept-source : (old mid : Core) (key wire : ℕ) → Holds old key wire → tags mid.sources ≡ tags old.sources → HasSource mid key
@@ -71,9 +54,9 @@ keeps-removed key r r0 r1 r2 old mid new (first, k) is gone =
       more.0,
       record {
         gained = more.1;
-        waits = more.2;
+        waits = unnumbered-waits more.0 more.2;
         ticker = ap (λ x. x.ticker) is;
-        made = ap (λ x. x.made) is;
+        made = omega (arith, ap (λ x. x.made) is, unnumbered-notices more.0 more.2);
         tags = ap (λ x. tags x.sources) is ∙ (tags-without mid.sources key ∙ ap (λ ts. without_tag ts key) k.tags);
         closed = ap (λ x. x.hands) is ∙ k.closed;
       },
@@ -84,9 +67,9 @@ kept-turns wire key r0 r1 old mid c c' t (h, h', es, o, a) = (
   es ++ arms_told o,
   record {
     gained = a.gained;
-    waits = a.waits;
+    waits = unnumbered-waits (es ++ arms_told o) a.unnumbered;
     ticker = a.ticker;
-    made = a.made;
+    made = omega (arith, a.made, unnumbered-notices (es ++ arms_told o) a.unnumbered);
     tags = a.tags;
     closed = a.rests.idle;
   },
@@ -98,7 +81,7 @@ turns-source wire key r0 r1 old mid c c' t holds (h, h', es, o, a) = kept-source
 -- ---- what a visit comes to
 
 pub stays-asleep : (wire key : ℕ) (r0 r1 : Option (List Event)) (old new : Core) (c c' : Opening) → Turns wire key r0 r1 old new c c' turn_end.Asleep →
-    MakesRegisteredVisit wire key r0 r1 old new c (slot.Asleep (record { key = key; client = c' }))
+    MakesRegisteredVisit wire key r0 r1 old new c (slot.Asleep (record { key = key; client = c'; alarm = None }))
 stays-asleep wire key r0 r1 old new c c' (h, h', es, o, a) = (
   h,
   h',
@@ -113,18 +96,19 @@ stays-asleep wire key r0 r1 old new c c' (h, h', es, o, a) = (
     asked = a.asked;
     shows = registry-append (map shown old.sources) es (arms_told o) ∙ (a.quiet (registry (map shown old.sources) es) ∙ a.shows);
     apart = a.apart;
-    waits = a.waits;
+    unnumbered = a.unnumbered;
     keeps = a.keeps;
     rests = a.rests;
     ticker = a.ticker;
     made = a.made;
+    timers = a.timers;
     begun = a.begun;
     tags = a.tags;
-    stays = record { over = a.turned.0; at = refl; open_ = a.turned.1; goes = a.turned.2; held = a.now };
+    stays = record { over = a.turned.0; at = refl; open_ = a.turned.1; untimed = refl; goes = a.turned.2; held = a.now };
   },
 )
 
-removed-at : {T : Type 0} (wire key : ℕ) (sources : List (ℕ × Source)) (h : Held) (v : T) (before after : Option (List Event)) → h.wire ≡ wire → held_at (map shown sources) key ≡ Some h →
+pub removed-at : {T : Type 0} (wire key : ℕ) (sources : List (ℕ × Source)) (h : Held) (v : T) (before after : Option (List Event)) → h.wire ≡ wire → held_at (map shown sources) key ≡ Some h →
     RemoveTold (source_of sources key) key (Ok v) before after → after ≡ told before (event.Delete wire key true ∷ [])
 removed-at wire key sources h v before after own at gone =
     let found = held-source sources key h at in
@@ -134,8 +118,8 @@ removed-at wire key sources h v before after own at gone =
 over-nil : (es tail : List Event) (o : Option (List Event)) → o ≡ None → (es ++ arms_told o) ++ tail ≡ es ++ tail
 over-nil es tail o e = ap (λ x. (es ++ arms_told x) ++ tail) e ∙ ap (λ x. x ++ tail) (append-nil es)
 
-no-tail : (es : List Event) (o : Option (List Event)) → o ≡ None → waits_in (es ++ arms_told o) ≡ 0 → waits_in es ≡ 0
-no-tail es o e none = ap waits_in (sym (append-nil es)) ∙ (ap (λ x. waits_in (es ++ arms_told x)) (sym e) ∙ none)
+no-tail : (es : List Event) (o : Option (List Event)) → o ≡ None → numbered_in (es ++ arms_told o) ≡ 0 → numbered_in es ≡ 0
+no-tail es o e none = ap numbered_in (sym (append-nil es)) ∙ (ap (λ x. numbered_in (es ++ arms_told x)) (sym e) ∙ none)
 
 stays-over : (wire key : ℕ) (r0 r1 r2 : Option (List Event)) (old mid : Core) (c c' : Opening) (e : Ending) →
     Turns wire key r0 r1 old mid c c' (turn_end.Over e) → r2 ≡ told r1 (event.Delete wire key true ∷ []) →
@@ -156,12 +140,13 @@ stays-over wire key r0 r1 r2 old mid c c' e (h, h', es, o, a) gone =
         asked = a.asked;
         shows = registry-append (map shown old.sources) es tail ∙ (ap (λ x. without_held x key) a.shows ∙ sym shows');
         apart = λ w. refl;
-        waits = waits_in-append es tail ∙ rw (no-tail es o a.turned.0 a.waits) refl;
+        unnumbered = numbered_in-append es tail ∙ rw (no-tail es o a.turned.0 a.unnumbered) refl;
         keeps = λ k x there other. ap (λ y. held_at y k) shows'
             ∙ without-keeps (map shown mid.sources) key k x (a.keeps k x there other) (two-keys (map shown mid.sources) key k x h' wire a.now a.wired' (a.keeps k x there other) other);
         rests = rests-removed mid key a.rests;
         ticker = a.ticker;
         made = a.made;
+        timers = a.timers;
         begun = a.begun;
         tags = tags-without mid.sources key ∙ ap (λ ts. without_tag ts key) a.tags;
         stays = record { over = a.turned.0; wired = refl; unread = refl; awake = a.turned.1; ends = a.turned.2 };
@@ -179,7 +164,7 @@ stays-ended wire key r0 r1 r2 old mid new c c' e v ended (h, h', es, o, a) is go
 -- ---- a call of the poller that failed
 
 -- what the removal of the wire's source told
-removal-told : {T : Type 0} (ample : Bool) (wire key : ℕ) (sources : List (ℕ × Source)) (h : Held) (r : Result T ReactError)
+pub removal-told : {T : Type 0} (ample : Bool) (wire key : ℕ) (sources : List (ℕ × Source)) (h : Held) (r : Result T ReactError)
     (before after : Option (List Event)) → h.wire ≡ wire → held_at (map shown sources) key ≡ Some h →
     OnReactLack r (ample ≡ false) → RemoveTold (source_of sources key) key r before after →
     (own : List Event) × RemovalTold ample wire key own × (after ≡ told before own)
@@ -197,6 +182,28 @@ removal-told ample wire key sources h r before after wired at lack gone =
     told_by s (Err react_error.OutOfMemory) is lack gone = ([], inr (lack, refl), gone ∙ told-nothing before)
     told_by s (Err (react_error.Exhausted c value)) is lack gone = absurd gone
 
+-- what the removal of the source that the wire holds told
+pub held-removal : {T : Type 0} (ample : Bool) (wire key : ℕ) (core : Core) (r : Result T ReactError)
+    (before after : Option (List Event)) → Holds core key wire → OnReactLack r (ample ≡ false) →
+    RemoveTold (source_of core.sources key) key r before after →
+    (own : List Event) × RemovalTold ample wire key own × (after ≡ told before own)
+held-removal ample wire key core r before after (h, at, wired) lack gone =
+    removal-told ample wire key core.sources h r before after wired at lack gone
+
+pub held-removed : {T : Type 0} (wire key : ℕ) (core : Core) (v : T) (before after : Option (List Event)) →
+    Holds core key wire → RemoveTold (source_of core.sources key) key (Ok v) before after →
+    after ≡ told before (event.Delete wire key true ∷ [])
+held-removed wire key core v before after (h, at, wired) gone =
+    removed-at wire key core.sources h v before after wired at gone
+
+pub held-unremoved : (T : Type 0) (wire key : ℕ) (core : Core) (before after : Option (List Event)) →
+    Holds core key wire → RemoveTold {T = T} (source_of core.sources key) key (Err react_error.Poller) before after →
+    after ≡ told before (event.Delete wire key false ∷ [])
+held-unremoved T wire key core before after (h, at, wired) gone =
+    let found = held-source core.sources key h at in
+    subst (λ x. RemoveTold {T = T} x key (Err react_error.Poller) before after) found.1 gone
+    ∙ ap (λ w. told before (event.Delete w key false ∷ [])) (ap (λ y. y.wire) found.2 ∙ wired)
+
 -- the arming failed, and the source was taken out
 pub visit-unarmed : {T : Type 0} (ample : Bool) (wire key : ℕ) (r0 r1 r2 : Option (List Event)) (old mid : Core) (c : Opening)
     (r : Result T ReactError) → Holds old key wire → tags mid.sources ≡ tags old.sources → TurnsFail wire key r0 r1 old c →
@@ -211,7 +218,7 @@ visit-unarmed ample wire key r0 r1 r2 old mid c r holds same f lack gone =
     let E : List Event → Type 0 = λ tail. EndFails wire key ample tail (event.Modify wire key f.read f.write false) own.0 in
     record {
       would = f.would;
-      slot = slot.Asleep (record { key = key; client = f.client });
+      slot = slot.Asleep (record { key = key; client = f.client; alarm = None });
       held = f.held;
       then_held = f.then_held;
       calls = f.calls;

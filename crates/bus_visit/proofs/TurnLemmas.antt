@@ -1,6 +1,6 @@
 -- A turn of a visit: a poll of the conversation, and the note of its stop; and one turn after another.
 use Rattle.std.proofs.Common.{◌≡◌, ◌⊎◌, inl, inr, ℕ, Bool, true, false, List, [], ◌∷◌, ◌++◌, map, length, Option, Some}
-use Rattle.std.proofs.Common.{None, Result, Ok, Err, OnErr, ◌<◌, ◌^◌, if◌then◌else◌, arith, refl, sym, ◌∙◌, ap, subst}
+use Rattle.std.proofs.Common.{◌+◌, None, Result, Ok, Err, OnErr, ◌<◌, ◌^◌, if◌then◌else◌, arith, refl, sym, ◌∙◌, ap, subst}
 use Rattle.std.specs.Option.{option_and_then}
 use Rattle.std.proofs.lemmas.List.{append_assoc, append-nil}
 use Rattle.react_core.specs.Told.{told, told-told}
@@ -15,21 +15,24 @@ use Rattle.bus_visit.specs.Visited as turn_end
 use Rattle.bus_visit.specs.declared.conversing.Conversed.TheVariants as conversed
 use Rattle.bus_session.specs.Parts.{part}
 use Rattle.bus_session.specs.Alone.{goes_through, outcome_of}
-use Rattle.bus_visit.specs.Counts.{after_begun, waits_in}
+use Rattle.bus_session.specs.Counts.{waits_in, notices_in}
+use Rattle.bus_visit.specs.Counts.{numbered_in}
+use Rattle.bus_visit.specs.Counts.{after_begun}
 use Rattle.bus_visit.specs.Registry.{Held, Side, Idle, Waits, Reported, stopped, side_held, stopped_held, held_at, registry}
 use Rattle.bus_visit.specs.Asking.{asks, begins, arms_at}
 use Rattle.bus_visit.specs.Shown.{IsBetweenCalls, shown, Tags, tags}
 use Rattle.bus_visit.specs.Conversed.{stands_at, GoesOn, PausesAt, Stops, ConversesTo, IsInterrupted}
 use Rattle.bus_visit.specs.Visited.{TurnEnd, KeepsCall, TurnEndsAs, Turned, Turns, may_ask, OnAgain}
 use Rattle.bus_visit.specs.Noted.{Holds, arms_told, asks_again, NotReadyNoted}
-use Rattle.bus_visit.specs.laws.Records.{registry-append, asks-append, goes-append, waits_in-append, AreCalls-append}
-use Rattle.bus_visit.specs.laws.Records.{answered-asks, answered-shows, answered-waits, stops-asks, stops-shows}
-use Rattle.bus_visit.specs.laws.Records.{stops-waits}
+use Rattle.bus_visit.specs.laws.Records.{registry-append, asks-append, goes-append, numbered_in-append, AreCalls-append}
+use Rattle.bus_visit.specs.laws.Records.{waits_in-append, notices_in-append, unnumbered-waits, unnumbered-notices}
+use Rattle.bus_visit.specs.laws.Records.{answered-asks, answered-shows, answered-unnumbered, stops-asks, stops-shows}
+use Rattle.bus_visit.specs.laws.Records.{stops-unnumbered}
 use Rattle.bus_visit.specs.Failing.{NoteFails, TurnsFail}
 use Rattle.bus_visit.proofs.FailureLemmas.{told-instead}
 use Rattle.bus_visit.proofs.NotReadyNotes.{stopped-wire}
 use Rattle.bus_visit.proofs.OtherWiresStay.{noted-keeps}
-use Rattle.bus_visit.specs.laws.Armings.{arming-quiet, arming-apart, arming-waits}
+use Rattle.bus_visit.specs.laws.Armings.{arming-quiet, arming-apart, arming-unnumbered}
 
 -- ---- what was told so far, at a refusal
 
@@ -37,23 +40,31 @@ pub on-err : {T E : Type 0} {P : Type 0} (r : Result T E) → P → OnErr r P
 on-err (Ok v) p = tt {0}
 on-err (Err e) p = p
 
-no-waits-append : (a b : List Event) → waits_in a ≡ 0 → waits_in b ≡ 0 → waits_in (a ++ b) ≡ 0
-no-waits-append a b none none' = waits_in-append a b ∙ rw (none, none') refl
+unnumbered-append : (a b : List Event) → numbered_in a ≡ 0 → numbered_in b ≡ 0 → numbered_in (a ++ b) ≡ 0
+unnumbered-append a b none none' = numbered_in-append a b ∙ rw (none, none') refl
 
 pub keeps-after : (expected : Tags) (r0 r1 r2 : Option (List Event)) (old mid new : Core) (first : List Event) →
-    r1 ≡ told r0 first → waits_in first ≡ 0 → mid.ticker ≡ old.ticker → mid.made ≡ old.made →
+    r1 ≡ told r0 first → waits_in first ≡ 0 → mid.ticker ≡ old.ticker → mid.made ≡ old.made + notices_in first →
     KeepsCall expected r1 r2 mid new → KeepsCall expected r0 r2 old new
 keeps-after expected r0 r1 r2 old mid new first gained none ticker made (more, k) = (
   first ++ more,
   record {
     gained = k.gained ∙ (ap (λ r. told r more) gained ∙ told-told r0 first more);
-    waits = no-waits-append first more none k.waits;
+    waits = omega (arith, none, k.waits, waits_in-append first more);
     ticker = k.ticker ∙ ticker;
-    made = k.made ∙ made;
+    made = omega (arith, k.made, made, notices_in-append first more);
     tags = k.tags;
     closed = k.closed;
   },
 )
+
+-- the same behind events that use no number
+pub keeps-unnumbered : (expected : Tags) (r0 r1 r2 : Option (List Event)) (old mid new : Core) (first : List Event) →
+    r1 ≡ told r0 first → numbered_in first ≡ 0 → mid.ticker ≡ old.ticker → mid.made ≡ old.made →
+    KeepsCall expected r1 r2 mid new → KeepsCall expected r0 r2 old new
+keeps-unnumbered expected r0 r1 r2 old mid new first gained none ticker made kept =
+    keeps-after expected r0 r1 r2 old mid new first gained (unnumbered-waits first none) ticker
+    (omega (arith, made, unnumbered-notices first none)) kept
 
 pub keeps-lack : (wire : ℕ) (r0 r1 : Option (List Event)) (core : Core) (c c' : Opening) → IsBetweenCalls core →
     IsInterrupted wire r0 r1 c c' → KeepsCall (tags core.sources) r0 r1 core core
@@ -61,9 +72,9 @@ keeps-lack wire r0 r1 core c c' rests (calls, x) = (
   calls,
   record {
     gained = x.gained;
-    waits = answered-waits calls x.answered;
+    waits = unnumbered-waits calls (answered-unnumbered calls x.answered);
     ticker = refl;
-    made = refl;
+    made = omega (arith, unnumbered-notices calls (answered-unnumbered calls x.answered));
     tags = refl;
     closed = rests.idle;
   },
@@ -73,7 +84,7 @@ pub keeps-stop : (wire : ℕ) (dir : Dir) (r0 r1 r2 : Option (List Event)) (old 
     ConversesTo wire r0 r1 c c' (conversed.Paused dir) → KeepsCall (tags old.sources) r1 r2 old new →
     KeepsCall (tags old.sources) r0 r2 old new
 keeps-stop wire dir r0 r1 r2 old new c c' (calls, x) =
-    keeps-after (tags old.sources) r0 r1 r2 old old new calls x.gained (stops-waits wire dir calls x.stops) refl refl
+    keeps-unnumbered (tags old.sources) r0 r1 r2 old old new calls x.gained (stops-unnumbered wire dir calls x.stops) refl refl
 
 -- ---- a turn that ends
 
@@ -102,11 +113,12 @@ turned-over wire key r0 r1 core c c' e (h, at, own) rests (calls, es) = (
     shows = answered-shows (map shown core.sources) calls es.answered;
     quiet = λ held. refl;
     apart = λ w. refl;
-    waits = ap waits_in (append-nil calls) ∙ answered-waits calls es.answered;
+    unnumbered = ap numbered_in (append-nil calls) ∙ answered-unnumbered calls es.answered;
     keeps = λ k x there other. there;
     rests = rests;
     ticker = refl;
     made = refl;
+    timers = refl;
     begun = none-begun core.begun rests.fits;
     tags = refl;
     turned = (refl, es.awake, es.ends);
@@ -125,10 +137,10 @@ arms_apart dir h w Idle = arming-apart (stopped_held dir h) w
 arms_apart dir h w Waits = refl
 arms_apart dir h w Reported = refl
 
-arms_waits : (dir : Dir) (h : Held) (b : Side) → waits_in (arms_told (arms_at dir h b)) ≡ 0
-arms_waits dir h Idle = arming-waits (stopped_held dir h)
-arms_waits dir h Waits = refl
-arms_waits dir h Reported = refl
+arms_unnumbered : (dir : Dir) (h : Held) (b : Side) → numbered_in (arms_told (arms_at dir h b)) ≡ 0
+arms_unnumbered dir h Idle = arming-unnumbered (stopped_held dir h)
+arms_unnumbered dir h Waits = refl
+arms_unnumbered dir h Reported = refl
 
 side-stopped : (dir : Dir) (h : Held) → side_held dir (stopped_held dir h) ≡ stopped (side_held dir h)
 side-stopped Read h = refl
@@ -166,11 +178,12 @@ stopped-turn wire key dir r0 r1 r2 old new c c' again t calls h es r is =
         shows = stops-shows wire dir calls es.stops (map shown old.sources) ∙ sym r.shows;
         quiet = arms_quiet dir h (side_held dir h);
         apart = λ w. arms_apart dir h w (side_held dir h);
-        waits = no-waits-append calls (arms_told o) (stops-waits wire dir calls es.stops) (arms_waits dir h (side_held dir h));
+        unnumbered = unnumbered-append calls (arms_told o) (stops-unnumbered wire dir calls es.stops) (arms_unnumbered dir h (side_held dir h));
         keeps = λ k x there other. ap (λ y. held_at y k) r.shows ∙ noted-keeps wire dir (map shown old.sources) k x there other;
         rests = r.rests;
         ticker = r.ticker;
         made = r.made;
+        timers = r.timers;
         begun = r.begun;
         tags = r.tags;
         turned = turn-cases dir c c' calls h t (side_held dir h) (is ∙ ap (λ x. if x then turn_end.Again else turn_end.Asleep) r.again_so) es.unended (goes-on dir c c' calls es.pauses);
@@ -237,7 +250,7 @@ turns-more wire key r0 r1 r2 old mid new c c1 c2 t (h, h', es, o, a) (k, k', es2
     let same : k ≡ h' = cc in
     let none : o ≡ None = a.turned.0 in
     let goes : GoesOn c c1 es = a.turned.2 in
-    let still : waits_in es ≡ 0 = ap waits_in (sym (append-nil es)) ∙ (ap (λ x. waits_in (es ++ arms_told x)) (sym none) ∙ a.waits) in (
+    let still : numbered_in es ≡ 0 = ap numbered_in (sym (append-nil es)) ∙ (ap (λ x. numbered_in (es ++ arms_told x)) (sym none) ∙ a.unnumbered) in (
       h,
       k',
       es ++ es2,
@@ -258,11 +271,12 @@ turns-more wire key r0 r1 r2 old mid new c c1 c2 t (h, h', es, o, a) (k, k', es2
         shows = registry-append (map shown old.sources) es es2 ∙ (ap (λ x. registry x es2) a.shows ∙ b.shows);
         quiet = b.quiet;
         apart = b.apart;
-        waits = ap waits_in (append_assoc es es2 (arms_told o2)) ∙ no-waits-append es (es2 ++ arms_told o2) still b.waits;
+        unnumbered = ap numbered_in (append_assoc es es2 (arms_told o2)) ∙ unnumbered-append es (es2 ++ arms_told o2) still b.unnumbered;
         keeps = λ k x there other. b.keeps k x (a.keeps k x there other) other;
         rests = b.rests;
         ticker = b.ticker ∙ a.ticker;
         made = b.made ∙ a.made;
+        timers = b.timers ∙ a.timers;
         begun = more-begun old.begun mid.begun new.begun (length (arms_told o2)) (a.begun ∙ ap (λ y. after_begun old.begun (length (arms_told y))) none) b.begun;
         tags = b.tags ∙ a.tags;
         turned = TurnsTo-more c c1 c2 es es2 o2 k' t goes b.turned;
@@ -271,7 +285,7 @@ turns-more wire key r0 r1 r2 old mid new c c1 c2 t (h, h', es, o, a) (k, k', es2
 
 pub keeps-turns : (expected : Tags) (wire key : ℕ) (r0 r1 r2 : Option (List Event)) (old mid new : Core) (c c' : Opening) (t : TurnEnd) →
     Turns wire key r0 r1 old mid c c' t → KeepsCall expected r1 r2 mid new → KeepsCall expected r0 r2 old new
-keeps-turns expected wire key r0 r1 r2 old mid new c c' t (h, h', es, o, a) kept = keeps-after expected r0 r1 r2 old mid new (es ++ arms_told o) a.gained a.waits a.ticker a.made kept
+keeps-turns expected wire key r0 r1 r2 old mid new c c' t (h, h', es, o, a) kept = keeps-unnumbered expected r0 r1 r2 old mid new (es ++ arms_told o) a.gained a.unnumbered a.ticker a.made kept
 
 -- some turns that each asked again, or none so far
 abbrev pub Turning : ℕ → ℕ → Option (List Event) → Option (List Event) → Core → Core → Opening → Opening → Type 0

@@ -9,5 +9,7 @@ pub mod Dialled
 pub mod Conversed
 pub mod Noted
 pub mod Visited
+pub mod Timed
+pub mod First
 pub mod Failing
 pub mod laws

@@ -2,7 +2,7 @@
 use Rattle.std.specs.Prelude.{◌≡◌, ℕ, Bool, true, false, List, [], map, length, Option, Some, None}
 use Rattle.react_core.specs.declared.outside.Event.{Event}
 use Rattle.react_core.specs.declared.reactor.Dir.{Dir}
-use Rattle.react_core.specs.Core.{Core}
+use Rattle.react_core.specs.Core.{Core, timers_applied}
 use Rattle.react_core.specs.Told.{told}
 use Rattle.bus_visit.specs.Counts.{after_begun}
 use Rattle.bus_visit.specs.Registry.{Held, side_held, held_at, noted, stopped_held}
@@ -33,5 +33,6 @@ pub record NotReadyNoted (wire key : ℕ) (dir : Dir) (before after : Option (Li
   pub rests : IsBetweenCalls new
   pub ticker : new.ticker ≡ old.ticker
   pub made : new.made ≡ old.made
+  pub timers : timers_applied new ≡ timers_applied old
   pub begun : new.begun ≡ after_begun old.begun (length (arms_told (arms_at dir h (side_held dir h))))
   pub tags : tags new.sources ≡ tags old.sources

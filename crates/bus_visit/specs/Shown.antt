@@ -3,7 +3,7 @@ use Rattle.std.specs.Prelude.{◌≡◌, ◌<◌, ◌≤◌, ◌^◌, ℕ, Bool,
 use Rattle.std.specs.Prelude.{map, Option, Some, None}
 use Rattle.std.specs.List.{list_any, list_all}
 use Rattle.react_core.specs.Places.{Entry, Direction, Source, round_number}
-use Rattle.react_core.specs.Core.{Core, timers_applied}
+use Rattle.react_core.specs.Core.{Core}
 use Rattle.react_core.specs.Readiness.{Outcome, Fires, Stays, Begins}
 use Rattle.bus_visit.specs.Registry.{Side, Idle, Waits, Reported, Held, Distinct}
 
@@ -48,13 +48,11 @@ abbrev pub AllSane : ℕ → ℕ → List (ℕ × Source) → Type 0
 AllSane round last [] = Unit {0}
 AllSane round last (s ∷ sources) = SaneSource round last s.1 × AllSane round last sources
 
--- how the reactor stands between two calls: each wire has one source, its own task alone waits there, and there is no
--- timer
+-- how the reactor stands between two calls: each wire has one source, and its own task alone waits there
 pub record IsBetweenCalls (core : Core) : Type 0 where
   pub sane : AllSane core.ticker core.ticker core.sources
   pub distinct : Distinct (map shown core.sources)
   pub idle : core.hands ≡ None
-  pub timeless : timers_applied core ≡ []
   pub fits : core.begun < 2 ^ 64
 
 -- ---- which wire is registered under which key

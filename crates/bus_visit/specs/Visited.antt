@@ -3,25 +3,23 @@ use Rattle.std.specs.Prelude.{◌≡◌, ◌≢◌, ◌<◌, ◌≤◌, ℕ, ◌
 use Rattle.std.specs.Prelude.{Option, Some, None, is_some, Result, Ok, Err}
 use Rattle.react_core.specs.declared.outside.Event.{Event}
 use Rattle.react_core.specs.declared.outside.Event.TheVariants as event
-use Rattle.react_core.specs.Core.{Core, inserted}
+use Rattle.react_core.specs.Core.{Core, timers_applied}
 use Rattle.react_core.specs.Told.{told, Rose}
 use Rattle.bus_opening.specs.Talk.{Said}
 use Rattle.bus_opening.specs.Openings.{Opening, StandsIn}
 use Rattle.bus_session.specs.declared.ended.Ending.{Ending}
 use Rattle.bus_session.specs.declared.ended.Ended.{Ended}
-use Rattle.bus_session.specs.declared.session.Session.{Session}
 use Rattle.bus_visit.specs.declared.visiting.Slot.{Slot}
 use Rattle.bus_visit.specs.declared.visiting.Slot.TheVariants as slot
 use Rattle.react_core.specs.declared.reactor.ReactError.{ReactError}
 use Rattle.react_core.specs.declared.reactor.ReactError.TheVariants as react_error
 use Rattle.bus_session.specs.Parts.{part}
-use Rattle.bus_session.specs.Dialling.{Opened, fails, opens, conversation, begins as begins_dialling}
-use Rattle.bus_visit.specs.Counts.{after_begun, waits_in}
-use Rattle.bus_visit.specs.Registry.{Held, Side, Idle, Waits, Reported, held_at, with_held, registry}
+use Rattle.bus_session.specs.Counts.{waits_in, notices_in}
+use Rattle.bus_visit.specs.Counts.{after_begun, numbered_in}
+use Rattle.bus_visit.specs.Registry.{Held, Side, Idle, Waits, Reported, held_at, registry}
 use Rattle.bus_visit.specs.Asking.{asks, begins}
 use Rattle.bus_visit.specs.Calls.{AreCalls}
-use Rattle.bus_visit.specs.Dialled.{Answered, DialsTo}
-use Rattle.bus_visit.specs.Shown.{IsBetweenCalls, shown, Tags, tags, without_tag, tag_at, has_wire, Single}
+use Rattle.bus_visit.specs.Shown.{IsBetweenCalls, shown, Tags, tags, without_tag}
 use Rattle.bus_visit.specs.Conversed.{is_awake, EndsAs, GoesOn}
 use Rattle.bus_visit.specs.Noted.{arms_told}
 
@@ -38,7 +36,8 @@ pub record Kept (expected : Tags) (before after : Option (List Event)) (old new 
   pub gained : after ≡ told before more
   pub waits : waits_in more ≡ 0
   pub ticker : new.ticker ≡ old.ticker
-  pub made : new.made ≡ old.made
+  -- each timer that was made was notified
+  pub made : new.made ≡ old.made + notices_in more
   pub tags : tags new.sources ≡ expected
   pub closed : new.hands ≡ None
 
@@ -76,13 +75,14 @@ pub record Turned (wire key : ℕ) (before after : Option (List Event)) (old new
   -- an arming is no wire's event, and changes no side
   pub quiet : (held : List Held) → registry held (arms_told o) ≡ held
   pub apart : (w : ℕ) → part w (arms_told o) ≡ []
-  pub waits : waits_in (calls ++ arms_told o) ≡ 0
+  pub unnumbered : numbered_in (calls ++ arms_told o) ≡ 0
   -- the other wires' sources stand as they stood
   pub keeps : (k : ℕ) (x : Held) → held_at (map shown old.sources) k ≡ Some x → x.wire ≢ wire →
       held_at (map shown new.sources) k ≡ Some x
   pub rests : IsBetweenCalls new
   pub ticker : new.ticker ≡ old.ticker
   pub made : new.made ≡ old.made
+  pub timers : timers_applied new ≡ timers_applied old
   pub begun : new.begun ≡ after_begun old.begun (length (arms_told o))
   pub tags : tags new.sources ≡ tags old.sources
   pub turned : TurnEndsAs c c' calls o h' t
@@ -141,6 +141,7 @@ RegisteredVisitEnds wire key c calls o held h (slot.Asleep s) = record {
   over : is_some o ≡ true;
   at : s.key ≡ key;
   open_ : s.client.ended ≡ false;
+  untimed : s.alarm ≡ None;
   goes : GoesOn c s.client calls;
   held : held_at held key ≡ Some h;
 }
@@ -157,12 +158,13 @@ pub record RegisteredVisit (wire key : ℕ) (before after : Option (List Event))
   pub asked : asks (Some (begins h)) calls ≡ Some (record { held = h'; over = o })
   pub shows : registry (map shown old.sources) (calls ++ tail_of wire key o s) ≡ map shown new.sources
   pub apart : (w : ℕ) → part w (tail_of wire key o s) ≡ []
-  pub waits : waits_in (calls ++ tail_of wire key o s) ≡ 0
+  pub unnumbered : numbered_in (calls ++ tail_of wire key o s) ≡ 0
   pub keeps : (k : ℕ) (x : Held) → held_at (map shown old.sources) k ≡ Some x → x.wire ≢ wire →
       held_at (map shown new.sources) k ≡ Some x
   pub rests : IsBetweenCalls new
   pub ticker : new.ticker ≡ old.ticker
   pub made : new.made ≡ old.made
+  pub timers : timers_applied new ≡ timers_applied old
   pub begun : new.begun ≡ after_begun old.begun (length (arms_told o))
   pub tags : tags new.sources ≡ tags_after key s (tags old.sources)
   pub stays : RegisteredVisitEnds wire key c calls o (map shown new.sources) h' s
@@ -172,43 +174,3 @@ abbrev pub MakesRegisteredVisit : ℕ → ℕ → Option (List Event) → Option
 MakesRegisteredVisit wire key before after old new c s =
     (h : Held) × (h' : Held) × (calls : List Event) × (o : Option (List Event)) ×
     RegisteredVisit wire key before after old new c s h h' calls o
-
--- ---- a first visit
-
--- a wire was opened: its source was registered, and the conversation begun
-pub record Registered (s : Session) (wire : ℕ) (opened : Opened) (before after : Option (List Event)) (old new : Core)
-    (c : Slot) (talk : List (List ℕ) → Said) (client : Opening) (key : ℕ) (mid : Core) : Type 0 where
-  pub begins : conversation s.party opened ≡ talk
-  pub stands : StandsIn talk [] client
-  pub unwritten : client.written ≡ []
-  pub free : held_at (map shown old.sources) key ≡ None
-  pub core : mid ≡ inserted old key wire
-  pub shows : with_held (map shown old.sources) (record { key = key; wire = wire; read = Idle; write = Idle }) ≡
-      map shown mid.sources
-  pub stays : MakesRegisteredVisit wire key (told before (event.Add wire key true ∷ [])) after mid new client c
-
-abbrev pub Registers : Session → ℕ → Opened → Option (List Event) → Option (List Event) → Core → Core → Slot → Type 0
-Registers s wire opened before after old new c =
-    (talk : List (List ℕ) → Said) × (client : Opening) × (key : ℕ) × (mid : Core) ×
-    Registered s wire opened before after old new c talk client key mid
-
--- a new session that sleeps has a new key
-abbrev pub FirstTags : ℕ → Tags → Tags → Slot → Type 0
-FirstTags wire old new (slot.Ended e) = new ≡ old
-FirstTags wire old new (slot.Asleep s) =
-    (tag_at old s.key ≡ None) × (tag_at new s.key ≡ Some wire) ×
-    ((key : ℕ) → key ≢ s.key → tag_at new key ≡ tag_at old key) ×
-    ((w : ℕ) → w ≢ wire → has_wire w new ≡ has_wire w old) × (Single old → Single new)
-FirstTags wire old new slot.Refused = ⊥
-
-pub data FirstVisits (s : Session) (wire : ℕ) (before after : Option (List Event)) (old new : Core)
-    (c : Slot) : Type 0 where
-  -- the dialling failed
-  undialled : (dials : List Answered) (failure : Ending) (e : Ended) →
-      DialsTo wire (begins_dialling s.party) (fails failure) before after dials → is_awake failure ≡ true → new ≡ old →
-      c ≡ slot.Ended e →
-      e ≡ record { ending = failure; written = []; leftover = []; wire = wire; moment = None } →
-      FirstVisits s wire before after old new c
-  dialled : (dials : List Answered) (opened : Opened) (mid : Option (List Event)) →
-      DialsTo wire (begins_dialling s.party) (opens opened) before mid dials →
-      Registers s wire opened mid after old new c → FirstVisits s wire before after old new c

@@ -4,6 +4,8 @@ pub mod Armings
 pub mod Sources
 pub mod Sanity
 pub mod Tags
+pub mod Timers
+pub mod Removals
 pub mod Interests
 pub mod Faults
 pub mod Dials

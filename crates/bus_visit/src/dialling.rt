@@ -92,6 +92,7 @@ fn dial_socket<D: Dialer>(
         ((D.outer dialer.new).events) }
     ensures counted { IfOk result (λ d. DialCounted wire d (D.outer dialer.old) (D.outer dialer.new)) }
     ensures poller { (D.outer dialer.new).poller_faults ≡ (D.outer dialer.old).poller_faults }
+    ensures unread { (D.outer dialer.new).moment ≡ (D.outer dialer.old).moment }
     ensures keeps { Keeps (part.Visit wire) (D.outer dialer.old) (D.outer dialer.new) }
 {
     match socket {
@@ -157,6 +158,7 @@ fn dial_program<D: Dialer>(
         ((D.outer dialer.new).events) }
     ensures counted { IfOk result (λ d. DialCounted wire d (D.outer dialer.old) (D.outer dialer.new)) }
     ensures poller { (D.outer dialer.new).poller_faults ≡ (D.outer dialer.old).poller_faults }
+    ensures unread { (D.outer dialer.new).moment ≡ (D.outer dialer.old).moment }
     ensures keeps { Keeps (part.Visit wire) (D.outer dialer.old) (D.outer dialer.new) }
 {
     let Some(path) = text_of(program.path()) else {
@@ -195,6 +197,7 @@ fn read_nonce<D: Dialer>(
         ((D.outer dialer.new).events) }
     ensures counted { IfOk result (λ d. DialCounted wire d (D.outer dialer.old) (D.outer dialer.new)) }
     ensures poller { (D.outer dialer.new).poller_faults ≡ (D.outer dialer.old).poller_faults }
+    ensures unread { (D.outer dialer.new).moment ≡ (D.outer dialer.old).moment }
     ensures keeps { Keeps (part.Visit wire) (D.outer dialer.old) (D.outer dialer.new) }
 {
     let Some(file) = file else {
@@ -233,6 +236,7 @@ fn dial_peers<D: Dialer>(
         ((D.outer dialer.old).events) ((D.outer dialer.new).events) }
     ensures counted { IfOk result (λ d. DialCounted wire d (D.outer dialer.old) (D.outer dialer.new)) }
     ensures poller { (D.outer dialer.new).poller_faults ≡ (D.outer dialer.old).poller_faults }
+    ensures unread { (D.outer dialer.new).moment ≡ (D.outer dialer.old).moment }
     ensures keeps { Keeps (part.Visit wire) (D.outer dialer.old) (D.outer dialer.new) }
 {
     let mut ending = Ending::Address(AddressReason::NoAddress);
@@ -260,6 +264,7 @@ fn dial_host<D: Dialer>(
         ((D.outer dialer.new).events) }
     ensures counted { IfOk result (λ d. DialCounted wire d (D.outer dialer.old) (D.outer dialer.new)) }
     ensures poller { (D.outer dialer.new).poller_faults ≡ (D.outer dialer.old).poller_faults }
+    ensures unread { (D.outer dialer.new).moment ≡ (D.outer dialer.old).moment }
     ensures keeps { Keeps (part.Visit wire) (D.outer dialer.old) (D.outer dialer.new) }
 {
     let Some(file) = optional_text(host.nonce_file()) else {
@@ -283,6 +288,7 @@ fn dial_given<D: Dialer>(
         ((D.outer dialer.new).events) }
     ensures counted { IfOk result (λ d. DialCounted wire d (D.outer dialer.old) (D.outer dialer.new)) }
     ensures poller { (D.outer dialer.new).poller_faults ≡ (D.outer dialer.old).poller_faults }
+    ensures unread { (D.outer dialer.new).moment ≡ (D.outer dialer.old).moment }
     ensures keeps { Keeps (part.Visit wire) (D.outer dialer.old) (D.outer dialer.new) }
 {
     match transport {
@@ -304,6 +310,7 @@ fn dial_printed<D: Dialer>(
         ((D.outer dialer.new).events) }
     ensures counted { IfOk result (λ d. DialCounted wire d (D.outer dialer.old) (D.outer dialer.new)) }
     ensures poller { (D.outer dialer.new).poller_faults ≡ (D.outer dialer.old).poller_faults }
+    ensures unread { (D.outer dialer.new).moment ≡ (D.outer dialer.old).moment }
     ensures keeps { Keeps (part.Visit wire) (D.outer dialer.old) (D.outer dialer.new) }
 {
     const FAILED: Ending = Ending::Address(AddressReason::IbusFailed);
@@ -326,6 +333,7 @@ fn dial_ibus<D: Dialer>(alloc: Global, dialer: &mut D, wire: u32) -> Result<Dial
         ((D.outer dialer.new).events) }
     ensures counted { IfOk result (λ d. DialCounted wire d (D.outer dialer.old) (D.outer dialer.new)) }
     ensures poller { (D.outer dialer.new).poller_faults ≡ (D.outer dialer.old).poller_faults }
+    ensures unread { (D.outer dialer.new).moment ≡ (D.outer dialer.old).moment }
     ensures keeps { Keeps (part.Visit wire) (D.outer dialer.old) (D.outer dialer.new) }
 {
     match dialer.run_ibus(alloc, wire) {
@@ -346,6 +354,7 @@ fn dial_address<D: Dialer>(
         ((D.outer dialer.new).events) }
     ensures counted { IfOk result (λ d. DialCounted wire d (D.outer dialer.old) (D.outer dialer.new)) }
     ensures poller { (D.outer dialer.new).poller_faults ≡ (D.outer dialer.old).poller_faults }
+    ensures unread { (D.outer dialer.new).moment ≡ (D.outer dialer.old).moment }
     ensures keeps { Keeps (part.Visit wire) (D.outer dialer.old) (D.outer dialer.new) }
 {
     match transport {
@@ -366,6 +375,7 @@ fn dial_text<D: Dialer>(
     ensures expected { IfOk result (λ r. r.expected ≡ guid_in (address text.now)) }
     ensures counted { IfOk result (λ r. DialCounted wire r.dialled (D.outer dialer.old) (D.outer dialer.new)) }
     ensures poller { (D.outer dialer.new).poller_faults ≡ (D.outer dialer.old).poller_faults }
+    ensures unread { (D.outer dialer.new).moment ≡ (D.outer dialer.old).moment }
     ensures keeps { Keeps (part.Visit wire) (D.outer dialer.old) (D.outer dialer.new) }
 {
     match Address::from_str(alloc, text) {
@@ -393,6 +403,7 @@ pub fn dial<D: Dialer>(
     ensures expected { IfOk result (λ r. r.expected ≡ expects party.now) }
     ensures counted { IfOk result (λ r. DialCounted wire r.dialled (D.outer dialer.old) (D.outer dialer.new)) }
     ensures poller { (D.outer dialer.new).poller_faults ≡ (D.outer dialer.old).poller_faults }
+    ensures unread { (D.outer dialer.new).moment ≡ (D.outer dialer.old).moment }
     ensures keeps { Keeps (part.Visit wire) (D.outer dialer.old) (D.outer dialer.new) }
 {
     match party {

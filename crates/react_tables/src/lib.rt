@@ -12,4 +12,6 @@ mod reactor;
 #[cfg(test)]
 mod steps;
 #[cfg(test)]
+mod timed;
+#[cfg(test)]
 mod timers;

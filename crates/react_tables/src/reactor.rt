@@ -295,6 +295,23 @@ fn removals_leave_it_idle(rt: HostRuntime) -> Result<(), Fail> {
 }
 
 #[test]
+fn a_report_of_a_key_that_was_given_on_wakes_its_new_owner(rt: HostRuntime) -> Result<(), Fail> {
+    let mut rig = Rig::new(rt.alloc(), 0)?;
+    let key = rig.insert(1)?;
+    assert!(rt; rig.poll(key, Dir::Read, 5) == PENDING);
+    assert!(rt; rig.remove(key) == DONE);
+    assert_eq!(rt; rig.insert(2)?, key);
+    assert!(rt; rig.poll(key, Dir::Read, 6) == PENDING);
+    assert!(rt; rig.begin(None).is_some());
+    assert!(rt; rig.finish(&[report(key, true, false)]) == DONE);
+    assert_eq!(rt; rig.woken(), (1, 6), "the first owner has gone");
+    assert!(rt; rig.poll(key, Dir::Read, 6) == READY);
+    assert!(rt; rig.poll(key, Dir::Read, 6) == PENDING);
+    assert_eq!(rt; rig.outside.armed, (key, true, false));
+    Ok(())
+}
+
+#[test]
 fn a_refused_insertion_or_poll_changes_nothing(rt: HostRuntime) -> Result<(), Fail> {
     for (fault, refusal) in [
         (Fault::Failed, ReactError::Poller),

@@ -67,10 +67,7 @@ fn words_and_scripts_are_refused_with_their_line_and_reason(rt: HostRuntime) -> 
         ("", "refused 0 order\n"),
         ("rounds 1\nclient", "refused 2 form\n"),
         ("rounds 1\nrecv 0 again", "refused 2 session\n"),
-        (
-            "rounds 1\nclient EXTERNAL 1000 - n 9 unix:path=/run/a\n",
-            "refused 2 not-built\n",
-        ),
+        ("rounds 0\nnow 5\nnow 4\n", "refused 3 clock\n"),
     ];
     for (script, text) in scripts {
         let (sink, status) = outcome(rt.alloc(), &["play"], script.as_bytes(), &[], 100)?;

@@ -1,5 +1,5 @@
 -- Laws of the engine over a record in pieces.
-use Rattle.std.specs.Prelude.{◌≡◌, ◌≢◌, ◌⊎◌, ℕ, true, false, List, [], ◌∷◌, ◌++◌, Some, None, is_some, slice_get}
+use Rattle.std.specs.Prelude.{◌≡◌, ◌≢◌, ◌⊎◌, ◌&&◌, ℕ, true, false, List, [], ◌∷◌, ◌++◌, Some, None, is_some, slice_get}
 use Rattle.react_core.specs.declared.outside.Event.{Event}
 use Rattle.react_core.specs.declared.outside.Event.TheVariants as event
 use Rattle.react_core.specs.declared.outside.Report.{Report}
@@ -11,11 +11,12 @@ use Rattle.bus_session.specs.Parts.{part}
 use Rattle.bus_session.specs.Dialling.{Opened, opens, fails}
 use Rattle.bus_session.specs.Alone.{Course, course}
 use Rattle.bus_record.specs.Pieces.{Round, visit, round, Pieces, ◌▸◌, told}
-use Rattle.bus_record.specs.Places.{key_of, holder, sleeps}
-use Rattle.bus_record.specs.Visits.{Here, here, conversing, finished, goes_on, was_visited, Visit}
-use Rattle.bus_record.specs.Settled.{timeout_at, IsRound, is_woken, due}
+use Rattle.bus_record.specs.Places.{key_of, holder, is_early, sleeps}
+use Rattle.bus_record.specs.Visits.{Here, here, Stage, conversing, finished, goes_on, starts, then_reads, was_visited, Visit}
+use Rattle.bus_record.specs.Settled.{timeout_at, IsRound, is_woken, is_late, due}
 use Rattle.bus_record.specs.Settled as settled
-use Rattle.bus_peers.specs.inside.Due.{due_at, AreDue, NoDeadlines}
+use Rattle.react_timers.specs.declared.timer.LiveTimer.{LiveTimer}
+use Rattle.bus_peers.specs.inside.Due.{due_at, late_at, AreDue}
 use Rattle.bus_visit.specs.Dialled.{Answered, dials_of, opening}
 use Rattle.bus_visit.specs.Registry.{after_reports_held, Held, idle, held_at, registry}
 use Rattle.bus_peers.specs.inside.RoundEvents.{rearming}
@@ -24,17 +25,21 @@ use Rattle.bus_peers.specs.inside.RegisteredVisits.{FirstDials, opened_course, C
 
 -- ---- a visit
 
--- Calls that end with an arming end the visit, where the session has no deadline.
+-- these events of a visit after the pieces so far lead to that stage
+abbrev pub ComesTo : Session → ℕ → Pieces → List Event → Stage → Type 0
+ComesTo s wire past events stage = goes_on s wire (here wire past) (starts s wire past) events ≡ Some stage
+
+-- Calls that end with an arming end the visit, where the session has no deadline; else the clock is read.
 abbrev pub StaysEndAsleep : Session → Type 0
 StaysEndAsleep s =
-    (wire key : ℕ) (h : Here) (from to : Held) (calls arm : List Event) (begin end : Course) → s.deadline ≡ None →
+    (wire key : ℕ) (h : Here) (from to : Held) (calls arm : List Event) (begin end : Course) →
     StandsAt h from → from.key ≡ key → from.wire ≡ wire → Converses wire from begin calls to (Some arm) end →
-    goes_on s wire h (Some (conversing key begin)) (calls ++ arm) ≡ Some finished
+    goes_on s wire h (Some (conversing key begin)) (calls ++ arm) ≡ Some (then_reads s h key end)
 
 -- Calls in which the session ends, and the removal of its source, end the visit.
 abbrev pub StaysEndOver : Session → Type 0
 StaysEndOver s =
-    (wire key : ℕ) (h : Here) (from to : Held) (calls : List Event) (begin end : Course) → s.deadline ≡ None →
+    (wire key : ℕ) (h : Here) (from to : Held) (calls : List Event) (begin end : Course) →
     StandsAt h from → Converses wire from begin calls to None end → Concludes begin end →
     goes_on s wire h (Some (conversing key begin)) (calls ++ event.Delete wire key true ∷ []) ≡ Some finished
 
@@ -54,14 +59,14 @@ FirstVisitsFail s =
 abbrev pub FirstVisitsSleep : Session → Type 0
 FirstVisitsSleep s =
     (wire key : ℕ) (past : Pieces) (dials : List Answered) (o : Opened) (to : Held)
-    (calls arm : List Event) (end : Course) → s.deadline ≡ None → FirstDials s wire past dials (opens o) →
+    (calls arm : List Event) (end : Course) → FirstDials s wire past dials (opens o) →
     holder key past ≡ None → Converses wire (idle wire key) (opened_course s o) calls to (Some arm) end →
-    Visit s wire past (opening wire key dials ++ (calls ++ arm))
+    ComesTo s wire past (opening wire key dials ++ (calls ++ arm)) (then_reads s (here wire past) key end)
 
 abbrev pub FirstVisitsEnd : Session → Type 0
 FirstVisitsEnd s =
     (wire key : ℕ) (past : Pieces) (dials : List Answered) (o : Opened) (to : Held)
-    (calls : List Event) (end : Course) → s.deadline ≡ None → FirstDials s wire past dials (opens o) →
+    (calls : List Event) (end : Course) → FirstDials s wire past dials (opens o) →
     holder key past ≡ None → Converses wire (idle wire key) (opened_course s o) calls to None end →
     Concludes (opened_course s o) end →
     Visit s wire past
@@ -70,14 +75,14 @@ FirstVisitsEnd s =
 -- A later visit goes on with the conversation as far as it has come.
 abbrev pub LaterVisitsSleep : Session → Type 0
 LaterVisitsSleep s =
-    (wire : ℕ) (past : Pieces) (from to : Held) (calls arm : List Event) (begin end : Course) → s.deadline ≡ None →
+    (wire : ℕ) (past : Pieces) (from to : Held) (calls arm : List Event) (begin end : Course) →
     key_of wire past ≡ Some from.key → from.wire ≡ wire → StandsAt (here wire past) from →
     course s (part wire (told past)) ≡ Some begin → Converses wire from begin calls to (Some arm) end →
-    Visit s wire past (calls ++ arm)
+    ComesTo s wire past (calls ++ arm) (then_reads s (here wire past) from.key end)
 
 abbrev pub LaterVisitsEnd : Session → Type 0
 LaterVisitsEnd s =
-    (wire : ℕ) (past : Pieces) (from to : Held) (calls : List Event) (begin end : Course) → s.deadline ≡ None →
+    (wire : ℕ) (past : Pieces) (from to : Held) (calls : List Event) (begin end : Course) →
     key_of wire past ≡ Some from.key → StandsAt (here wire past) from →
     course s (part wire (told past)) ≡ Some begin → Converses wire from begin calls to None end →
     Concludes begin end → Visit s wire past (calls ++ event.Delete wire from.key true ∷ [])
@@ -150,29 +155,30 @@ WokenAreDue =
     (past : Pieces) (sources : List Held) (r : Round) (wire : ℕ) → Shows past sources →
     is_woken past r wire ≡ due_at sources (reports_of r.answer) wire
 
--- Where each wire that is due sleeps, the list of those wires is the one that the pieces have.
+-- Where each wire that is due sleeps, and the timers are those of the sleepers, the list of those wires is the one that
+-- the pieces have.
 abbrev pub DueWiresAreSame : List Session → Type 0
 DueWiresAreSame sessions =
-    (past : Pieces) (sources : List Held) (r : Round) (wires : List ℕ) → NoDeadlines sessions → Shows past sources →
+    (past : Pieces) (sources : List Held) (r : Round) (timers : List LiveTimer) (wires : List ℕ) → Shows past sources →
     ((wire : ℕ) → due_at sources (reports_of r.answer) wire ≡ true →
     (s : Session) × (slice_get sessions wire ≡ Some s) × (sleeps s wire past ≡ true)) →
-    AreDue sources (reports_of r.answer) wires → wires ≡ due sessions past r
+    ((wire : ℕ) (s : Session) → slice_get sessions wire ≡ Some s →
+    late_at timers r.first r.second wire ≡ (sleeps s wire past && is_late r s.deadline)) →
+    ((wire : ℕ) → slice_get sessions wire ≡ None → late_at timers r.first r.second wire ≡ false) →
+    AreDue sources (reports_of r.answer) timers r.first r.second wires → wires ≡ due sessions past r
 
--- Without a deadline a round waits for its reports alone.
-abbrev pub NothingTimesOut : List Session → Type 0
-NothingTimesOut sessions = (past : Pieces) (moment : ℕ) → NoDeadlines sessions → timeout_at sessions past moment ≡ None
-
--- Without a deadline this is a round.
+-- This is a round, where it waits up to the nearest deadline.
 abbrev pub RoundsAreRounds : List Session → Type 0
 RoundsAreRounds sessions =
-    (past : Pieces) (sources : List Held) (r : Round) → NoDeadlines sessions → Shows past sources →
-    r.timeout ≡ None → r.answer ≢ wait_answer.Failed → is_some r.second ≡ is_quiet None r.answer →
+    (past : Pieces) (sources : List Held) (r : Round) → Shows past sources →
+    r.timeout ≡ timeout_at sessions past r.first → r.answer ≢ wait_answer.Failed →
+    is_some r.second ≡ is_quiet r.timeout r.answer →
     r.rearmed ≡ rearming sources (reports_of r.answer) → IsRound sessions past r
 
--- A session without a deadline sleeps where its last call paused a direction that waits.
+-- A session sleeps where its last call paused a direction that waits, and no reading since reached its deadline.
 abbrev pub PausedSleeps : Session → Type 0
 PausedSleeps s =
-    (past : Pieces) (sources : List Held) (wire key : ℕ) (h : Held) → s.deadline ≡ None →
+    (past : Pieces) (sources : List Held) (wire key : ℕ) (h : Held) → is_early s.deadline wire past ≡ true →
     ShowsAsleep past sources wire key h → sleeps s wire past ≡ true
 
 -- Behind a round such a session sleeps on, or its wire is due.

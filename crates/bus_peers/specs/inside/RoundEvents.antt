@@ -1,5 +1,7 @@
 -- A round, as a record shows it: the clock, the wait, and the clock again where nothing came in time.
-use Rattle.std.specs.Prelude.{◌++◌, ◌≡◌, ◌≢◌, ℕ, is_some, List, [], ◌∷◌, Option, Some, None}
+use Rattle.react_timers.specs.declared.timer.LiveTimer.{LiveTimer}
+use Rattle.react_timers.specs.Live.{later}
+use Rattle.std.specs.Prelude.{◌++◌, ◌≡◌, ◌≢◌, ◌≤◌, ℕ, is_some, List, [], ◌∷◌, Option, Some, None}
 use Rattle.react_core.specs.declared.outside.Event.{Event}
 use Rattle.react_core.specs.declared.outside.Event.TheVariants as event
 use Rattle.react_core.specs.declared.outside.WaitAnswer.{WaitAnswer}
@@ -8,9 +10,10 @@ use Rattle.react_core.specs.Round.{is_quiet}
 use Rattle.react_core.specs.declared.outside.Report.{Report}
 use Rattle.bus_visit.specs.Registry.{Held, held_at, arming, reported_held, after_report_held}
 
--- the first reading of the clock, the wait's answer, and the second reading where one was made
+-- the first reading of the clock, the wait and its answer, and the second reading where one was made
 pub record Round : Type 0 where
   pub first : ℕ
+  pub timeout : Option ℕ
   pub answer : WaitAnswer
   pub second : Option ℕ
 
@@ -18,12 +21,26 @@ abbrev pub reading_told : Option ℕ → List Event
 reading_told None = []
 reading_told (Some moment) = event.Now moment ∷ []
 
-abbrev pub round_told : Option ℕ → Round → List Event
-round_told timeout r = event.Now r.first ∷ event.Wait timeout r.answer ∷ reading_told r.second
+abbrev pub round_told : Round → List Event
+round_told r = event.Now r.first ∷ event.Wait r.timeout r.answer ∷ reading_told r.second
 
 -- a second reading is made exactly where the timeout has passed and nothing was reported; no wait has failed
-abbrev pub IsRound : Option ℕ → Round → Type 0
-IsRound timeout r = (is_some r.second ≡ is_quiet timeout r.answer) × (r.answer ≢ wait_answer.Failed)
+abbrev pub IsRound : Round → Type 0
+IsRound r = (is_some r.second ≡ is_quiet r.timeout r.answer) × (r.answer ≢ wait_answer.Failed)
+
+-- the clock's last reading after a first one
+abbrev pub ReadTo : ℕ → Option ℕ → ℕ → Type 0
+ReadTo first None now = now ≡ first
+ReadTo first (Some moment) now = (first ≤ moment) × (now ≡ moment)
+
+-- the clock went from the first moment to the second, and never fell
+abbrev pub RoundClock : ℕ → Round → ℕ → Type 0
+RoundClock before r now = (before ≤ r.first) × ReadTo r.first r.second now
+
+-- the timers that a second reading leaves
+abbrev pub left_after : Option ℕ → List LiveTimer → List LiveTimer
+left_after None timers = timers
+left_after (Some moment) timers = later moment timers
 
 -- the re-arming after reports, in their order: for each whose key has a holder, what of it still waits then
 abbrev pub rearming_of : Option Held → Report → List Event

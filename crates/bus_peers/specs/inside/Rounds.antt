@@ -5,7 +5,11 @@ use Rattle.std.specs.List.{list_all}
 use Rattle.react_core.specs.declared.outside.Event.{Event}
 use Rattle.react_core.specs.declared.outside.Event.TheVariants as event
 use Rattle.react_core.specs.Places.{Source}
-use Rattle.react_core.specs.Core.{Core, HasSource, removed}
+use Rattle.react_core.specs.declared.reactor.Counter.TheVariants as counter
+use Rattle.react_core.specs.Core.{Core, HasSource, removed, timers_applied}
+use Rattle.react_core.specs.Timing.{wait_limit}
+use Rattle.react_timers.specs.Live.{later}
+use Rattle.bus_visit.specs.Timed.{moment_after}
 use Rattle.react_core.specs.Sources.{source_of}
 use Rattle.react_core.specs.Round.{reports_of}
 use Rattle.react_core.specs.Told.{told}
@@ -16,7 +20,7 @@ use Rattle.bus_visit.specs.declared.visiting.Slot.{Slot}
 use Rattle.bus_visit.specs.declared.visiting.Slot.TheVariants as slot
 use Rattle.bus_peers.specs.declared.open.OpenError.{OpenError}
 use Rattle.bus_peers.specs.declared.open.OpenError.TheVariants as open_err
-use Rattle.bus_peers.specs.inside.RoundEvents.{Round, IsRound, round_told, rearming}
+use Rattle.bus_peers.specs.inside.RoundEvents.{Round, IsRound, RoundClock, round_told, rearming, left_after}
 use Rattle.bus_visit.specs.Registry.{Held, registry}
 use Rattle.bus_peers.specs.inside.Due.{AreDue}
 use Rattle.bus_visit.specs.Shown.{IsBetweenCalls, shown, Tags, has_wire}
@@ -25,17 +29,20 @@ use Rattle.bus_visit.specs.Shown.{IsBetweenCalls, shown, Tags, has_wire}
 abbrev pub WokenBy : Woken → ℕ → Woken → Type 0
 WokenBy old task new = new.lost ≡ false → (old.lost ≡ false) × (new.tasks.items ≡ old.tasks.items ++ task ∷ [])
 
--- a round without a deadline: the clock, the wait, the clock again where nothing came, and the re-arming of what
--- still waits
+-- a round: the clock, the wait, the clock again where nothing came in time, and the re-arming of what still waits
 abbrev pub round_events : List Held → Round → List Event
-round_events held r = round_told None r ++ rearming held (reports_of r.answer)
+round_events held r = round_told r ++ rearming held (reports_of r.answer)
 
--- a round, and the wires that it makes due
-pub record Rounded (before after : Option (List Event)) (old new : Core) (woken : List ℕ) (r : Round) : Type 0 where
-  pub form : IsRound None r
+-- A round, and the wires that it makes due. It waits up to the nearest timer, and takes those that its readings reach.
+pub record Rounded (before after : Option (List Event)) (moment now : ℕ) (old new : Core) (woken : List ℕ)
+    (r : Round) : Type 0 where
+  pub form : IsRound r
+  pub waited : r.timeout ≡ wait_limit old r.first None
   pub gained : after ≡ told before (round_events (map shown old.sources) r)
+  pub clock : RoundClock moment r now
   pub shows : registry (map shown old.sources) (round_events (map shown old.sources) r) ≡ map shown new.sources
-  pub due : AreDue (map shown old.sources) (reports_of r.answer) woken
+  pub timers : timers_applied new ≡ left_after r.second (later r.first (timers_applied old))
+  pub due : AreDue (map shown old.sources) (reports_of r.answer) (timers_applied old) r.first r.second woken
   pub rests : IsBetweenCalls new
   pub ticker : new.ticker ≡ old.ticker + 1
   pub made : new.made ≡ old.made
@@ -45,12 +52,12 @@ pub record Rounded (before after : Option (List Event)) (old new : Core) (woken 
 abbrev pub HaveWires : List ℕ → Tags → Type 0
 HaveWires wires ts = list_all (λ w. has_wire w ts) wires ≡ true
 
--- what holds where a number was exhausted
+-- a round's number was exhausted, and this holds where one was
 abbrev pub OnExhausted : {T : Type 0} → Result T OpenError → Type 0 → Type 0
 OnExhausted (Ok v) P = Unit {0}
 OnExhausted (Err open_err.OutOfMemory) P = Unit {0}
 OnExhausted (Err open_err.Poller) P = Unit {0}
-OnExhausted (Err (open_err.Exhausted c value)) P = P
+OnExhausted (Err (open_err.Exhausted c value)) P = (c ≡ counter.Round) × P
 
 -- ---- the sources at the end
 
@@ -95,7 +102,7 @@ EndsIn wire (slot.Asleep s) ended =
       written = s.client.written;
       leftover = s.client.rest;
       wire = wire;
-      moment = None;
+      moment = moment_after s.alarm;
     }
 EndsIn wire slot.Refused ended = ⊥
 

@@ -1,8 +1,9 @@
 -- Where the sessions stand between their visits, in the code and in the record.
 use Rattle.std.specs.Prelude.{◌≡◌, ◌≢◌, ◌⊎◌, ◌<◌, ◌≤◌, ◌^◌, ◌-◌, ℕ, ◌+◌, Bool, true, false, not, List, [], ◌∷◌, map}
-use Rattle.std.specs.Prelude.{take, length, count_by, Option, Some, None, Result, Ok, Err}
+use Rattle.std.specs.Prelude.{take, length, count_by, Option, Some, None, is_some, Result, Ok, Err}
 use Rattle.std.specs.List.{list_all}
 use Rattle.react_core.specs.declared.outside.Event.{Event}
+use Rattle.react_core.specs.declared.reactor.Counter.{Counter}
 use Rattle.react_core.specs.declared.reactor.Counter.TheVariants as counter
 use Rattle.react_core.specs.declared.reactor.Dir.{Dir}
 use Rattle.react_core.specs.Core.{Core}
@@ -12,11 +13,10 @@ use Rattle.bus_opening.specs.Openings.{Opening, StandsIn}
 use Rattle.bus_session.specs.declared.ended.Ending.TheVariants as ending
 use Rattle.bus_session.specs.declared.session.Session.{Session}
 use Rattle.bus_session.specs.Parts.{part}
-use Rattle.bus_session.specs.Sessions.{is_built}
-use Rattle.bus_session.specs.Alone.{course}
+use Rattle.bus_session.specs.Alone.{course, has_reached}
 use Rattle.bus_record.specs.Pieces as pieces
 use Rattle.bus_record.specs.Pieces.{Pieces, ◌▸◌, visit, rounds_in, armings_in, is_modify}
-use Rattle.bus_record.specs.Places.{key_of, waits, paused, moment}
+use Rattle.bus_record.specs.Places.{key_of, waits, paused, moment, is_early, notified}
 use Rattle.bus_record.specs.Visits.{was_visited, Visit}
 use Rattle.bus_record.specs.Settled.{AllRest, Run, sleepers, comes_to}
 use Rattle.bus_record.specs.Headline.{IsEnding}
@@ -24,7 +24,10 @@ use Rattle.bus_visit.specs.declared.visiting.Slot.{Slot}
 use Rattle.bus_visit.specs.declared.visiting.Slot.TheVariants as slot
 use Rattle.bus_peers.specs.declared.open.OpenError.{OpenError}
 use Rattle.bus_peers.specs.declared.open.OpenError.TheVariants as open_err
-use Rattle.bus_visit.specs.Counts.{waits_in, after_begun}
+use Rattle.bus_session.specs.Counts.{waits_in, notices_in}
+use Rattle.bus_visit.specs.declared.timing.Alarm.{Alarm}
+use Rattle.bus_visit.specs.Timed.{moment_after}
+use Rattle.bus_visit.specs.Counts.{after_begun}
 use Rattle.bus_peers.specs.inside.Shows.{Shows}
 use Rattle.bus_peers.specs.inside.Due.{is_in}
 use Rattle.bus_visit.specs.Shown.{IsBetweenCalls, shown, Tags, tag_at, has_wire, Single, are_below}
@@ -67,12 +70,19 @@ pub record Talking (s : Session) (wire : ℕ) (past : Pieces) (c : Opening) : Ty
   pub stands : StandsIn talk got c
   pub through : course s (part wire (pieces.told past)) ≡ Some (stands_at s.party talk got c (Some dir))
 
--- The direction that its last wire answer paused waits, unless the session is still to be visited in this round.
-pub record Paused (wire : ℕ) (past : Pieces) (key : ℕ) (pending : List ℕ) : Type 0 where
+-- The direction that its last wire answer paused waits, and no reading since its last visit has reached its deadline,
+-- unless the session is still to be visited in this round.
+pub record Paused (wire : ℕ) (deadline : Option ℕ) (past : Pieces) (key : ℕ) (pending : List ℕ) : Type 0 where
   pub registered : key_of wire past ≡ Some key
   pub dir : Dir
   pub last : paused wire past ≡ Some dir
   pub waits_or_due : (waits dir wire past ≡ true) ⊎ (is_in wire pending ≡ true)
+  pub early_or_due : (is_early deadline wire past ≡ true) ⊎ (is_in wire pending ≡ true)
+
+-- the deadline that its timer has
+abbrev pub deadline_after : Option Alarm → Option ℕ
+deadline_after None = None
+deadline_after (Some alarm) = Some alarm.deadline
 
 -- where a session stands, some of which are still to be visited
 abbrev pub Stands : Session → ℕ → List ℕ → Pieces → Slot → Type 0
@@ -83,11 +93,14 @@ Stands s wire pending past (slot.Ended e) = record {
 }
 Stands s wire pending past (slot.Asleep c) = record {
   open_ : c.client.ended ≡ false;
-  unread : moment wire past ≡ None;
+  read : moment wire past ≡ moment_after c.alarm;
+  limited : s.deadline ≡ deadline_after c.alarm;
+  early : has_reached s.deadline (moment_after c.alarm) ≡ false;
+  notified : notified wire past ≡ is_some c.alarm;
   comes : comes_to s wire past ≡
       Some (record { ending = ending.Waiting; written = c.client.written; leftover = c.client.rest });
   talking : Talking s wire past c.client;
-  paused : Paused wire past c.key pending;
+  paused : Paused wire s.deadline past c.key pending;
 }
 Stands s wire pending past slot.Refused = ⊥
 
@@ -120,7 +133,7 @@ pub record CallStands (sessions : List Session) (rounds : ℕ) (pending : List �
   -- the record has as many waits as it has rounds
   pub counted : waits_in (pieces.told past) ≡ rounds_in past
   pub ticker : core.ticker ≡ start.ticker + rounds_in past
-  pub made : core.made ≡ start.made
+  pub made : core.made ≡ start.made + notices_in (pieces.told past)
   pub begun : core.begun ≡ after_begun start.begun (armings_in past)
 
 -- the call stands there after so many rounds
@@ -129,22 +142,18 @@ abbrev pub CallStandsAfter : List Session → ℕ → List ℕ → ℕ → Core 
 CallStandsAfter sessions rounds pending n start before after core slots =
     (past : Pieces) × (rounds_in past ≡ n) × CallStands sessions rounds pending start before after core slots past
 
--- no session has a deadline
-abbrev pub AllBuilt : List Session → Type 0
-AllBuilt sessions = list_all is_built sessions ≡ true
-
 -- one visit after another: from where these sessions are to be visited to where those are, whatever the call began with
 abbrev pub VisitsKeepCall : List ℕ → List ℕ → Option (List Event) → Option (List Event) → Core → Core → List Slot →
     List Slot → Type 0
 VisitsKeepCall pending pending' r0 r1 old new slots slots' =
-    (sessions : List Session) (rounds n : ℕ) (start : Core) (before : Option (List Event)) → AllBuilt sessions →
+    (sessions : List Session) (rounds n : ℕ) (start : Core) (before : Option (List Event)) →
     CallStandsAfter sessions rounds pending n start before r0 old slots →
     CallStandsAfter sessions rounds pending' n start before r1 new slots'
 
 -- a round and its visits, where one is left and a session sleeps
 abbrev pub RoundKeepsCall : Option (List Event) → Option (List Event) → Core → Core → List Slot → List Slot → Type 0
 RoundKeepsCall r0 r1 old new slots slots' =
-    (sessions : List Session) (rounds n : ℕ) (start : Core) (before : Option (List Event)) → AllBuilt sessions →
+    (sessions : List Session) (rounds n : ℕ) (start : Core) (before : Option (List Event)) →
     length slots ≡ length sessions →
     n < rounds → old.sources ≢ [] →
     CallStandsAfter sessions rounds [] n start before r0 old slots →
@@ -161,7 +170,7 @@ pub record CallSettled (sessions : List Session) (rounds : ℕ) (start : Core) (
 abbrev pub RoundsSettleCall : ℕ → Option (List Event) → Option (List Event) → Core → Core → List Slot →
     List Slot → Type 0
 RoundsSettleCall rounds r0 r1 old new slots slots' =
-    (sessions : List Session) (start : Core) (before : Option (List Event)) → AllBuilt sessions →
+    (sessions : List Session) (start : Core) (before : Option (List Event)) →
     length slots ≡ length sessions →
     CallStandsAfter sessions rounds [] 0 start before r0 old slots → (past : Pieces) ×
     CallSettled sessions rounds start before r1 new slots' past
@@ -175,19 +184,24 @@ pub record VisitInRecord (s : Session) (wire : ℕ) (past : Pieces) (before afte
   pub others : (w : ℕ) → w ≢ wire → part w v ≡ []
   pub rests : IsBetweenCalls new
   pub ticker : new.ticker ≡ old.ticker
-  pub made : new.made ≡ old.made
+  pub made : new.made ≡ old.made + notices_in v
   pub begun : new.begun ≡ after_begun old.begun (count_by is_modify v)
   pub waits : waits_in v ≡ 0
   pub stands : (pending : List ℕ) → Stands s wire pending (past ▸ visit wire v) c
 
 -- ---- refusals
 
--- What was told, whatever came of it: each round was begun, no timer was made, and no round is open.
+-- What was told, whatever came of it: each round was begun, each timer that was made was notified, and no round is open.
 pub record Told (before after : Option (List Event)) (old new : Core) (more : List Event) : Type 0 where
   pub gained : after ≡ told before more
-  pub made : new.made ≡ old.made
+  pub made : new.made ≡ old.made + notices_in more
   pub closed : new.hands ≡ None
   pub ticker : new.ticker ≡ old.ticker + waits_in more
+
+-- where a round's number ran out, the last one was used
+abbrev pub LastRound : Counter → Core → Type 0
+LastRound counter.Round core = core.ticker ≡ 2 ^ 64 - 1
+LastRound counter.Timer core = Unit {0}
 
 -- a refusal; want of memory says nothing of the rounds
 abbrev pub RefusedAt : OpenError → Option (List Event) → Option (List Event) → Core → Core → Type 0
@@ -195,8 +209,7 @@ RefusedAt open_err.OutOfMemory before after old new =
     (new.hands ≡ None) × ((more : List Event) × (after ≡ told before more))
 RefusedAt open_err.Poller before after old new = (more : List Event) × Told before after old new more
 RefusedAt (open_err.Exhausted c value) before after old new =
-    (c ≡ counter.Round) × (value ≡ 2 ^ 64 - 1) × (new.ticker ≡ 2 ^ 64 - 1) ×
-    ((more : List Event) × Told before after old new more)
+    (value ≡ 2 ^ 64 - 1) × LastRound c new × ((more : List Event) × Told before after old new more)
 
 abbrev pub Refuses : {T : Type 0} → Result T OpenError → Option (List Event) → Option (List Event) → Core →
     Core → Type 0
@@ -218,15 +231,7 @@ Stuck (Ok v) rounds r0 r1 old new slots slots' = Unit {0}
 Stuck (Err open_err.OutOfMemory) rounds r0 r1 old new slots slots' = Unit {0}
 Stuck (Err open_err.Poller) rounds r0 r1 old new slots slots' = Unit {0}
 Stuck (Err (open_err.Exhausted c value)) rounds r0 r1 old new slots slots' =
-    (sessions : List Session) (start : Core) (before : Option (List Event)) → AllBuilt sessions →
+    (c ≡ counter.Round) × ((sessions : List Session) (start : Core) (before : Option (List Event)) →
     length slots ≡ length sessions →
     CallStandsAfter sessions rounds [] 0 start before r0 old slots → (past : Pieces) ×
-    CallHalted sessions rounds start before r1 new slots' past
-
-abbrev pub Halts : {T : Type 0} → Result T OpenError → List Session → ℕ → Core → Option (List Event) →
-    Option (List Event) → Core → List Slot → Type 0
-Halts (Ok v) sessions rounds start before after core slots = Unit {0}
-Halts (Err open_err.OutOfMemory) sessions rounds start before after core slots = Unit {0}
-Halts (Err open_err.Poller) sessions rounds start before after core slots = Unit {0}
-Halts (Err (open_err.Exhausted c value)) sessions rounds start before after core slots =
-    (past : Pieces) × CallHalted sessions rounds start before after core slots past
+    CallHalted sessions rounds start before r1 new slots' past)

@@ -2,7 +2,7 @@
 use Rattle.std.proofs.Common.{◌≡◌, ℕ, Bool, true, false, ◌||◌, if◌then◌else◌, List, [], ◌∷◌, refl}
 use Rattle.react_core.specs.declared.outside.Event.TheVariants as event
 use Rattle.bus_session.specs.Parts.{part}
-use Rattle.bus_visit.specs.Counts.{waits_in}
+use Rattle.bus_visit.specs.Counts.{numbered_in}
 use Rattle.bus_visit.specs.Registry.{Held, waits, registry, arming}
 
 quiet_one : (c : Bool) (wire key : ℕ) (read write : Bool) (held : List Held) →
@@ -23,11 +23,11 @@ apart_one false wire key read write w = refl
 pub arming-apart : (h : Held) (w : ℕ) → part w (arming h) ≡ []
 arming-apart h w = apart_one (waits h.read || waits h.write) h.wire h.key (waits h.read) (waits h.write) w
 
-waits_one : (c : Bool) (wire key : ℕ) (read write : Bool) →
-    waits_in (if c then event.Modify wire key read write true ∷ [] else []) ≡ 0
-waits_one true wire key read write = refl
-waits_one false wire key read write = refl
+unnumbered_one : (c : Bool) (wire key : ℕ) (read write : Bool) →
+    numbered_in (if c then event.Modify wire key read write true ∷ [] else []) ≡ 0
+unnumbered_one true wire key read write = refl
+unnumbered_one false wire key read write = refl
 
 -- it is no Wait
-pub arming-waits : (h : Held) → waits_in (arming h) ≡ 0
-arming-waits h = waits_one (waits h.read || waits h.write) h.wire h.key (waits h.read) (waits h.write)
+pub arming-unnumbered : (h : Held) → numbered_in (arming h) ≡ 0
+arming-unnumbered h = unnumbered_one (waits h.read || waits h.write) h.wire h.key (waits h.read) (waits h.write)

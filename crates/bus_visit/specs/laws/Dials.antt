@@ -8,7 +8,7 @@ use Rattle.react_core.specs.declared.outside.Event.TheVariants as event
 use Rattle.react_core.specs.declared.outside.Question.{Question}
 use Rattle.react_core.specs.declared.outside.DialAnswer.{DialAnswer}
 use Rattle.bus_session.specs.Parts.{part}
-use Rattle.bus_visit.specs.Counts.{waits_in}
+use Rattle.bus_visit.specs.Counts.{numbered_in}
 use Rattle.bus_visit.specs.Dialled.{Answered, dials_of, opening}
 use Rattle.bus_visit.specs.Registry.{Held, idle, registry, with_held}
 
@@ -49,14 +49,14 @@ dials-sources wire (a ∷ dials) held = dials-sources wire dials held
 
 -- ---- what is counted
 
-pub dials-waits : (wire : ℕ) (dials : List Answered) → waits_in (dials_of wire dials) ≡ 0
-dials-waits wire [] = refl
-dials-waits wire (a ∷ dials) = dials-waits wire dials
+pub dials-unnumbered : (wire : ℕ) (dials : List Answered) → numbered_in (dials_of wire dials) ≡ 0
+dials-unnumbered wire [] = refl
+dials-unnumbered wire (a ∷ dials) = dials-unnumbered wire dials
 
-pub opening-waits : (wire key : ℕ) (dials : List Answered) (rest : List Event) →
-    waits_in (opening wire key dials ++ rest) ≡ waits_in rest
-opening-waits wire key [] rest = refl
-opening-waits wire key (a ∷ dials) rest = opening-waits wire key dials rest
+pub opening-unnumbered : (wire key : ℕ) (dials : List Answered) (rest : List Event) →
+    numbered_in (opening wire key dials ++ rest) ≡ numbered_in rest
+opening-unnumbered wire key [] rest = refl
+opening-unnumbered wire key (a ∷ dials) rest = opening-unnumbered wire key dials rest
 
 -- ---- the part of a wire
 

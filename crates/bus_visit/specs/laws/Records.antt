@@ -15,7 +15,8 @@ use Rattle.react_core.specs.declared.outside.SendAnswer.TheVariants as send_answ
 use Rattle.react_core.specs.declared.reactor.Dir.{Dir}
 use Rattle.react_core.specs.declared.reactor.Dir.TheVariants.{Read, Write}
 use Rattle.bus_visit.specs.Calls.{IsCall, AreCalls, IsAnswered, AllAnswered, IsNotReady, StopsAt}
-use Rattle.bus_visit.specs.Counts.{waits_in}
+use Rattle.bus_session.specs.Counts.{waits_in, notices_in}
+use Rattle.bus_visit.specs.Counts.{numbered_in}
 
 -- ---- one list of events after another
 
@@ -36,6 +37,29 @@ goes-append t (e ∷ a) b = goes-append (option_and_then (λ reached. after reac
 
 pub waits_in-append : (a b : List Event) → waits_in (a ++ b) ≡ waits_in a + waits_in b
 waits_in-append a b = sum_by-append _ a b
+
+pub notices_in-append : (a b : List Event) → notices_in (a ++ b) ≡ notices_in a + notices_in b
+notices_in-append a b = sum_by-append _ a b
+
+pub numbered_in-append : (a b : List Event) → numbered_in (a ++ b) ≡ numbered_in a + numbered_in b
+numbered_in-append a b = sum_by-append _ a b
+
+-- events that use no number have no wait and no notice
+pub unnumbered-waits : (events : List Event) → numbered_in events ≡ 0 → waits_in events ≡ 0
+unnumbered-waits [] none = refl
+unnumbered-waits (event.Wait timeout answer ∷ events) none =
+    absurd (omega (arith, none, numbered_in-append (event.Wait timeout answer ∷ []) events))
+unnumbered-waits (event.Notify ok ∷ events) none =
+    absurd (omega (arith, none, numbered_in-append (event.Notify ok ∷ []) events))
+unnumbered-waits (e ∷ events) none = unnumbered-waits events none
+
+pub unnumbered-notices : (events : List Event) → numbered_in events ≡ 0 → notices_in events ≡ 0
+unnumbered-notices [] none = refl
+unnumbered-notices (event.Wait timeout answer ∷ events) none =
+    absurd (omega (arith, none, numbered_in-append (event.Wait timeout answer ∷ []) events))
+unnumbered-notices (event.Notify ok ∷ events) none =
+    absurd (omega (arith, none, numbered_in-append (event.Notify ok ∷ []) events))
+unnumbered-notices (e ∷ events) none = unnumbered-notices events none
 
 pub AreCalls-append : (wire : ℕ) (a b : List Event) → AreCalls wire a → AreCalls wire b → AreCalls wire (a ++ b)
 AreCalls-append wire [] b h k = k
@@ -61,11 +85,11 @@ pub part-other : (wire w : ℕ) (calls : List Event) → AreCalls wire calls →
 part-other wire w [] h other = refl
 part-other wire w (e ∷ calls) (h, hs) other = rw (call-other wire w e h other, part-other wire w calls hs other) refl
 
-pub calls-no-waits : (wire : ℕ) (calls : List Event) → AreCalls wire calls → waits_in calls ≡ 0
-calls-no-waits wire [] h = refl
-calls-no-waits wire (event.Recv on size answer ∷ calls) (h, hs) = calls-no-waits wire calls hs
-calls-no-waits wire (event.Send on offered answer ∷ calls) (h, hs) = calls-no-waits wire calls hs
-calls-no-waits wire (e ∷ calls) (h, hs) = absurd h
+pub calls-unnumbered : (wire : ℕ) (calls : List Event) → AreCalls wire calls → numbered_in calls ≡ 0
+calls-unnumbered wire [] h = refl
+calls-unnumbered wire (event.Recv on size answer ∷ calls) (h, hs) = calls-unnumbered wire calls hs
+calls-unnumbered wire (event.Send on offered answer ∷ calls) (h, hs) = calls-unnumbered wire calls hs
+calls-unnumbered wire (e ∷ calls) (h, hs) = absurd h
 
 -- ---- answered calls
 
@@ -98,14 +122,14 @@ answered-shows held [] is = refl
 answered-shows held (e ∷ calls) (is, more) =
     ap (λ x. registry x calls) (answer-shows held e is) ∙ answered-shows held calls more
 
-pub answered-waits : (calls : List Event) → AllAnswered calls → waits_in calls ≡ 0
-answered-waits [] is = refl
-answered-waits (event.Recv wire asked (recv_answer.Got bytes) ∷ calls) (is, more) = answered-waits calls more
-answered-waits (event.Recv wire asked recv_answer.End ∷ calls) (is, more) = answered-waits calls more
-answered-waits (event.Recv wire asked recv_answer.Failed ∷ calls) (is, more) = answered-waits calls more
-answered-waits (event.Send wire offered (send_answer.Took n) ∷ calls) (is, more) = answered-waits calls more
-answered-waits (event.Send wire offered send_answer.Failed ∷ calls) (is, more) = answered-waits calls more
-answered-waits (e ∷ calls) (is, more) = absurd is
+pub answered-unnumbered : (calls : List Event) → AllAnswered calls → numbered_in calls ≡ 0
+answered-unnumbered [] is = refl
+answered-unnumbered (event.Recv wire asked (recv_answer.Got bytes) ∷ calls) (is, more) = answered-unnumbered calls more
+answered-unnumbered (event.Recv wire asked recv_answer.End ∷ calls) (is, more) = answered-unnumbered calls more
+answered-unnumbered (event.Recv wire asked recv_answer.Failed ∷ calls) (is, more) = answered-unnumbered calls more
+answered-unnumbered (event.Send wire offered (send_answer.Took n) ∷ calls) (is, more) = answered-unnumbered calls more
+answered-unnumbered (event.Send wire offered send_answer.Failed ∷ calls) (is, more) = answered-unnumbered calls more
+answered-unnumbered (e ∷ calls) (is, more) = absurd is
 
 -- ---- and a NotReady behind them
 
@@ -115,10 +139,10 @@ stop-asks wire Read h (event.Recv w asked recv_answer.NotReady) is = refl
 stop-asks wire Write h (event.Send w offered send_answer.NotReady) is = refl
 stop-asks wire dir h e is = absurd is
 
-stop-waits : (wire : ℕ) (dir : Dir) (e : Event) → IsNotReady wire dir e → waits_in (e ∷ []) ≡ 0
-stop-waits wire Read (event.Recv w asked recv_answer.NotReady) is = refl
-stop-waits wire Write (event.Send w offered send_answer.NotReady) is = refl
-stop-waits wire dir e is = absurd is
+stop-unnumbered : (wire : ℕ) (dir : Dir) (e : Event) → IsNotReady wire dir e → numbered_in (e ∷ []) ≡ 0
+stop-unnumbered wire Read (event.Recv w asked recv_answer.NotReady) is = refl
+stop-unnumbered wire Write (event.Send w offered send_answer.NotReady) is = refl
+stop-unnumbered wire dir e is = absurd is
 
 stop-shows : (wire : ℕ) (dir : Dir) (held : List Held) (e : Event) → IsNotReady wire dir e →
     registry held (e ∷ []) ≡ noted wire dir held
@@ -138,7 +162,7 @@ module _ (wire : ℕ) (dir : Dir) (calls : List Event) (s : StopsAt wire dir cal
       ∙ (ap (λ x. registry x (s.last ∷ [])) (answered-shows held s.answered s.all)
       ∙ stop-shows wire dir held s.last s.stop))
 
-  pub stops-waits : waits_in calls ≡ 0
-  stops-waits =
-      ap waits_in s.whole ∙ (waits_in-append s.answered (s.last ∷ [])
-      ∙ rw (answered-waits s.answered s.all, stop-waits wire dir s.last s.stop) refl)
+  pub stops-unnumbered : numbered_in calls ≡ 0
+  stops-unnumbered =
+      ap numbered_in s.whole ∙ (numbered_in-append s.answered (s.last ∷ [])
+      ∙ rw (answered-unnumbered s.answered s.all, stop-unnumbered wire dir s.last s.stop) refl)

@@ -1,5 +1,5 @@
 use Rattle.bus_open.proofs.Following.{not-refused}
-use Rattle.bus_open.proofs.OverReal.{opens, script_fails, built_parts}
+use Rattle.bus_open.proofs.OverReal.{opens, script_fails}
 use Rattle.bus_script.specs.declared.reading.ScriptForm.TheVariants as forms
 use Rattle.bus_open.proofs.opening.open_script.Goals as goal
 
@@ -73,7 +73,3 @@ returns-in-Ok-read-clause-refused_script g c = λ text refused holds is.
     (not-refused forms.Open text refused (g.S.Source.left c.args.source.now) (g.S.Source.left c.read_all.new.source)
     c.in-Ok.text.items c.in-Ok-read.script c.in-Ok.ensures.bytes c.in-Ok.ensures.end
     (rw (← c.as_slice.ensures.value) c.in-Ok-read.ensures.exact) holds is)
-
-pub perform-requires-clause-built : goal.perform-requires-clause-built
-perform-requires-clause-built g c = built_parts c.in-Ok-read.script c.into_parts-parts.result.sessions.items
-    c.in-Ok-read.ensures.built_sessions c.into_parts-parts.ensures.sessions

@@ -48,7 +48,7 @@ pub returns-clause-status : goal.returns-clause-status
 returns-clause-status g c =
     rw c.status_of.ensures (among _ (two_of (g.O.Tells.outer c.args.real.now) (g.O.Tells.outer c.open_all.new.outside) c.args.sessions.items
     c.args.rounds c.in-Ok.reactor.core c.open_all.new.reactor.core c.in-Err.refusal c.in-Err.ensures.opened (ap (λ (r : ReactorState). r.core.ticker) c.in-Ok.ensures)
-    (omega arith)))
+    (ap (λ (r : ReactorState). r.core.made) c.in-Ok.ensures) (omega arith) c.requires.few))
 
 pub returns-clause-poller : goal.returns-clause-poller
 returns-clause-poller g c = λ six.

@@ -67,12 +67,14 @@ pub returns-clause-exhausted : goal.returns-clause-exhausted
 returns-clause-exhausted g c = λ seven.
     let alone = exhausted-alone c.in-Err.refusal (sym c.status_of.ensures ∙ seven) in
     let refused = rw alone.2 at (c.in-Err.ensures.opened).3 in (
-      runs-out c.args.played.scene.script c.args.played.sessions.items c.args.played.rounds c.args.played.tick
+      runs-out alone.0 c.args.played.scene.script c.args.played.sessions.items c.args.played.rounds c.args.played.tick
+          c.args.played.timer
           c.in-Ok.reactor.core _ _ c.events-events.result.now c.requires.new c.events-events.ensures.told
           (follows-answers c.args.played.scene.script _ c.args.played.scene.rooms _ _ _ c.events-events.result.now
           c.open_all-opened.ensures.keeps.origin c.events-events.ensures.told c.requires.unwaited
           (ap (λ (r : ReactorState). r.events) c.in-Ok.ensures) c.open_all-opened.ensures.keeps.rooms
           c.events-events.ensures.follows) (ap (λ r. r.core.ticker) c.in-Ok.ensures)
-          ((c.in-Err.ensures.opened).0, (c.in-Err.ensures.opened).1, refused.3),
+          (ap (λ (r : ReactorState). r.core.made) c.in-Ok.ensures)
+          ((c.in-Err.ensures.opened).0, (c.in-Err.ensures.opened).1, refused.2),
       keeps_same _,
     )

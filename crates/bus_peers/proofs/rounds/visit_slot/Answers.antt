@@ -8,7 +8,11 @@ use Rattle.bus_visit.specs.declared.visiting.Sleeper.{Sleeper}
 use Rattle.bus_visit.specs.Shown.{Tags, tag_at, tags, has_wire}
 use Rattle.bus_peers.specs.inside.Slots.{Owned, AllOpen, is_open_slot, VisitsKeepCall}
 use Rattle.bus_visit.specs.laws.Tags.{has_wire-below, tag-held, other_wire-without}
-use Rattle.bus_peers.proofs.SlotLemmas.{test-at, test-set, set-set, owns-at, asleep-at, owned-refused, owned-stays, others-stay, open-stays, stays-told}
+use Rattle.bus_peers.proofs.SlotLemmas.{test-at, test-set, set-set, owns-at, asleep-at, owned-refused, owned-stays, others-stay}
+use Rattle.bus_peers.proofs.VisitTells.{visit-does, visit-told}
+use Rattle.bus_peers.proofs.AlarmLemmas.{alarmed-again}
+use Rattle.bus_peers.specs.inside.Alarms.{Alarmed}
+use Rattle.bus_visit.specs.Timed.{limit_after}
 use Rattle.react_core.specs.Outer.{visit-in-all}
 use Rattle.bus_peers.specs.inside.SlotFaults.{CountsOn}
 use Rattle.bus_peers.proofs.FrameLemmas.{counts-set, visit-made}
@@ -100,9 +104,8 @@ returns-clause-went g c = λ pending.
 pub returns-clause-stands : goal.returns-clause-stands
 returns-clause-stands g c =
     let up : is_open_slot c.in_ok-slots.field-0 ≡ true =
-    open-stays c.args.wire c.in-Asleep.sleeper.key ((g.O.Tells.outer c.args.outside.now).events)
-    ((g.O.Tells.outer c.visit.new.outside).events) c.args.reactor.now.core c.visit.new.reactor.core
-    c.in-Asleep.sleeper.client c.in_ok-slots.field-0 c.in_ok-slots.ensures.visited in
+    (visit-does c.args.wire c.in-Asleep.sleeper.key (limit_after c.in-Asleep.sleeper.alarm) _ _ c.args.reactor.now.core
+    c.visit.new.reactor.core c.in-Asleep.sleeper.client c.in_ok-slots.field-0 c.in_ok-slots.ensures.visited).open_ in
     ap (list_all is_open_slot)
     (set-set c.args.slots.now.items c.args.wire c.replace-slot.new.dest c.in_ok-slots.field-0) ∙
     test-set is_open_slot c.args.slots.now.items c.args.wire c.in_ok-slots.field-0 c.requires.stands up
@@ -117,8 +120,10 @@ returns-clause-owned g c =
     subst P (sym (set-set c.args.slots.now.items c.args.wire c.replace-slot.new.dest c.in_ok-slots.field-0))
     (owned-stays c.args.wire c.in-Asleep.sleeper.key ((g.O.Tells.outer c.args.outside.now).events)
     ((g.O.Tells.outer c.visit.new.outside).events)
-    c.args.reactor.now.core c.visit.new.reactor.core c.in-Asleep.sleeper.client c.args.slots.now.items
-    c.in_ok-slots.field-0 c.requires.owned (tagged c.args.wire c.args.slots.now.items (tags c.args.reactor.now.core.sources) c.in-Asleep.sleeper c.requires.owned at) c.in_ok-slots.ensures.visited)
+    c.args.reactor.now.core c.visit.new.reactor.core c.args.slots.now.items
+    c.in_ok-slots.field-0 c.requires.owned (tagged c.args.wire c.args.slots.now.items (tags c.args.reactor.now.core.sources) c.in-Asleep.sleeper c.requires.owned at)
+    (visit-does c.args.wire c.in-Asleep.sleeper.key (limit_after c.in-Asleep.sleeper.alarm) _ _ c.args.reactor.now.core
+    c.visit.new.reactor.core c.in-Asleep.sleeper.client c.in_ok-slots.field-0 c.in_ok-slots.ensures.visited))
 
 pub returns-clause-others : goal.returns-clause-others
 returns-clause-others g c =
@@ -128,24 +133,36 @@ returns-clause-others g c =
     c.index_mut.ensures.value in
     others-stay c.args.wire c.in-Asleep.sleeper.key ((g.O.Tells.outer c.args.outside.now).events)
     ((g.O.Tells.outer c.visit.new.outside).events)
-    c.args.reactor.now.core c.visit.new.reactor.core c.in-Asleep.sleeper.client c.in_ok-slots.field-0
-    (tagged c.args.wire c.args.slots.now.items (tags c.args.reactor.now.core.sources) c.in-Asleep.sleeper c.requires.owned at) c.in_ok-slots.ensures.visited
+    c.args.reactor.now.core c.visit.new.reactor.core c.in_ok-slots.field-0
+    (tagged c.args.wire c.args.slots.now.items (tags c.args.reactor.now.core.sources) c.in-Asleep.sleeper c.requires.owned at)
+    (visit-does c.args.wire c.in-Asleep.sleeper.key (limit_after c.in-Asleep.sleeper.alarm) _ _ c.args.reactor.now.core
+    c.visit.new.reactor.core c.in-Asleep.sleeper.client c.in_ok-slots.field-0 c.in_ok-slots.ensures.visited)
 
 pub returns-clause-told : goal.returns-clause-told
 returns-clause-told g c =
-    stays-told c.args.wire c.in-Asleep.sleeper.key ((g.O.Tells.outer c.args.outside.now).events)
-    ((g.O.Tells.outer c.visit.new.outside).events)
-    c.args.reactor.now.core c.visit.new.reactor.core c.in-Asleep.sleeper.client c.in_ok-slots.field-0
-    c.in_ok-slots.ensures.visited
+    visit-told c.args.wire c.in-Asleep.sleeper.key (limit_after c.in-Asleep.sleeper.alarm) _ _ c.args.reactor.now.core
+    c.visit.new.reactor.core c.in-Asleep.sleeper.client c.in_ok-slots.field-0 c.in_ok-slots.ensures.visited
+
+pub returns-clause-alarmed : goal.returns-clause-alarmed
+returns-clause-alarmed g c = λ pending alarmed.
+    let at : slice_get c.args.slots.now.items c.args.wire ≡ Some (slot.Asleep c.in-Asleep.sleeper) =
+    read c.args.wire c.args.slots.now.items (tags c.args.reactor.now.core.sources) (slot.Asleep c.in-Asleep.sleeper)
+    c.index_mut.result.now c.requires.owned c.requires.registered c.in-Asleep.ensures.value
+    c.index_mut.ensures.value in
+    let A : List Slot → Type 0 = λ x. Alarmed (g.O.Tells.outer c.visit.new.outside).moment c.visit.new.reactor.core pending x in
+    subst A (sym (set-set c.args.slots.now.items c.args.wire c.replace-slot.new.dest c.in_ok-slots.field-0))
+    (alarmed-again c.args.wire c.in-Asleep.sleeper.key pending _ _ _ _ c.args.reactor.now.core
+    c.visit.new.reactor.core c.args.slots.now.items c.in-Asleep.sleeper c.in_ok-slots.field-0 at
+    c.in_ok-slots.ensures.visited c.in_ok-slots.ensures.forward alarmed)
 
 pub returns-in_err-slots-clause-timers : goal.returns-in_err-slots-clause-timers
-returns-in_err-slots-clause-timers g c = visit-made c.visit.result _ _ _ _ _ _ _ _ c.visit.ensures.visited c.visit.ensures.refused
+returns-in_err-slots-clause-timers g c = visit-made c.visit.result _ _ _ _ _ _ _ _ _ c.visit.ensures.visited c.visit.ensures.refused
 
 pub returns-in_err-slots-clause-keeps : goal.returns-in_err-slots-clause-keeps
 returns-in_err-slots-clause-keeps g c = λ room. visit-in-all c.args.wire room _ _ c.visit.ensures.keeps
 
 pub returns-clause-timers : goal.returns-clause-timers
-returns-clause-timers g c = visit-made c.visit.result _ _ _ _ _ _ _ _ c.visit.ensures.visited c.visit.ensures.refused
+returns-clause-timers g c = visit-made c.visit.result _ _ _ _ _ _ _ _ _ c.visit.ensures.visited c.visit.ensures.refused
 
 pub returns-clause-keeps : goal.returns-clause-keeps
 returns-clause-keeps g c = λ room. visit-in-all c.args.wire room _ _ c.visit.ensures.keeps
@@ -167,3 +184,8 @@ returns-in_err-slots-clause-failed g c =
     going-again-fails c.args.wire pending _ _ _ c.args.reactor.now.core c.visit.new.reactor.core c.args.slots.now.items
     c.in-Asleep.sleeper at c.requires.owned c.in_err-slots.ensures.refused.1.tags
     c.in_err-slots.ensures.refused.1.ticker f) c.in_err-slots.ensures.failed)
+
+pub returns-clause-rests : goal.returns-clause-rests
+returns-clause-rests g c =
+    (visit-does c.args.wire c.in-Asleep.sleeper.key (limit_after c.in-Asleep.sleeper.alarm) _ _ c.args.reactor.now.core
+    c.visit.new.reactor.core c.in-Asleep.sleeper.client c.in_ok-slots.field-0 c.in_ok-slots.ensures.visited).rests

@@ -6,7 +6,7 @@ use Rattle.react_core.specs.Outer.{keeps-same, keeps-then}
 use Rattle.react_core.specs.Outer as part
 use Rattle.bus_peers.proofs.FailingVisits.{visits-then-fail}
 use Rattle.bus_peers.proofs.MadeLemmas.{on-poller, if-poller-by}
-use Rattle.bus_peers.proofs.FrameLemmas.{fell-all, counts-none, counts-then}
+use Rattle.bus_peers.proofs.FrameLemmas.{fell-all, counts-none, counts-then, made-none, made-then}
 use Rattle.bus_peers.proofs.SlotLemmas.{refuses-more, told-both, rise-next, have-rest, wire-below, goes-next, goes-all}
 use Rattle.bus_peers.proofs.rounds.visit_woken.Goals as goal
 
@@ -59,7 +59,12 @@ loop-wire-preserved g c = record {
       c.args.reactor.now.core c.loop-wire.reactor.core c.visit_slot.new.reactor.core c.loop-wire.invariant.told
       c.in_ok-visit_slot.ensures.told;
   poller = c.in_ok-visit_slot.ensures.cause ∙ c.loop-wire.invariant.poller;
-  timers = c.visit_slot.ensures.timers ∙ c.loop-wire.invariant.timers;
+  timers = made-then _ _ _ c.args.reactor.now.core c.loop-wire.reactor.core c.visit_slot.new.reactor.core c.loop-wire.invariant.timers c.visit_slot.ensures.timers;
+  alarmed =
+      let w = slice_index_or c.args.woken.now c.loop-wire.wire-index 0 in
+      let rest = drop (c.loop-wire.wire-index + 1) c.args.woken.now in
+      let split = next c.args.woken.now c.loop-wire.wire-index c.loop-wire-test.true in
+      c.in_ok-visit_slot.ensures.alarmed rest (rw split at c.loop-wire.invariant.alarmed);
   keeps = λ room. keeps-then (part.All room) _ _ _ (c.loop-wire.invariant.keeps room) (c.visit_slot.ensures.keeps room);
   counted =
       counts-then c.args.slots.now.items c.loop-wire.slots.items c.visit_slot.new.slots.items _ _ _
@@ -79,7 +84,7 @@ pub returns-in_err-visit_slot-clause-keeps : goal.returns-in_err-visit_slot-clau
 returns-in_err-visit_slot-clause-keeps g c = λ room. keeps-then (part.All room) _ _ _ (c.loop-wire.invariant.keeps room) (c.visit_slot.ensures.keeps room)
 
 pub loop-wire-init : goal.loop-wire-init
-loop-wire-init g c = search (rules, keeps-same, counts-none)
+loop-wire-init g c = search (rules, keeps-same, counts-none, made-none)
 
 pub returns-in_err-visit_slot-clause-failed : goal.returns-in_err-visit_slot-clause-failed
 returns-in_err-visit_slot-clause-failed g c =
@@ -92,3 +97,11 @@ returns-in_err-visit_slot-clause-failed g c =
     c.visit_slot.new.reactor.core c.args.slots.now.items c.loop-wire.slots.items
     (rw split at c.loop-wire.invariant.went)
     (rw (c.loop-wire.invariant.keeps 0).ample at (fails rest))) c.in_err-visit_slot.ensures.failed)
+
+pub returns-clause-alarmed : goal.returns-clause-alarmed
+returns-clause-alarmed g c =
+    rw (drop_all c.loop-wire.wire-index c.args.woken.now c.loop-wire-test.false) at c.loop-wire.invariant.alarmed
+
+pub returns-in_err-visit_slot-clause-timers : goal.returns-in_err-visit_slot-clause-timers
+returns-in_err-visit_slot-clause-timers g c =
+    made-then _ _ _ c.args.reactor.now.core c.loop-wire.reactor.core c.visit_slot.new.reactor.core c.loop-wire.invariant.timers c.visit_slot.ensures.timers

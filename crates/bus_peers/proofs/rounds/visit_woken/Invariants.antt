@@ -7,6 +7,8 @@ use Rattle.bus_peers.specs.inside.Rounds.{HaveWires}
 use Rattle.bus_peers.specs.inside.Due.{RisesFrom}
 use Rattle.bus_visit.specs.Shown.{IsBetweenCalls, tags}
 use Rattle.bus_peers.specs.inside.Slots.{Owned, AllOpen, VisitsKeepCall, Told}
+use Rattle.bus_peers.specs.inside.Alarms.{Alarmed}
+use Rattle.bus_peers.specs.Headline.{MadeTold}
 use Rattle.bus_peers.proofs.rounds.visit_woken.Given as goal
 
 abbrev pub invariant-loop-wire : goal.invariant-loop-wire
@@ -21,7 +23,9 @@ invariant-loop-wire g l = record {
   registered : HaveWires (drop l.wire-index l.woken) (tags l.reactor.core.sources);
   told : (more : List Event) × Told ((g.O.Tells.outer l.fn.outside).events) ((g.O.Tells.outer l.outside).events) l.fn.reactor.core l.reactor.core more;
   poller : (g.O.Tells.outer l.outside).poller_faults ≡ (g.O.Tells.outer l.fn.outside).poller_faults;
-  timers : l.reactor.core.made ≡ l.fn.reactor.core.made;
+  timers : MadeTold l.fn.reactor.core l.reactor.core ((g.O.Tells.outer l.fn.outside).events)
+      ((g.O.Tells.outer l.outside).events);
+  alarmed : Alarmed (g.O.Tells.outer l.outside).moment l.reactor.core (drop l.wire-index l.woken) l.slots.items;
   keeps : (room : ℕ) → Keeps (part.All room) (g.O.Tells.outer l.fn.outside) (g.O.Tells.outer l.outside);
   counted : CountsOn l.fn.slots.items l.slots.items (g.O.Tells.outer l.fn.outside) (g.O.Tells.outer l.outside);
   reports : l.reactor.events ≡ l.fn.reactor.events;

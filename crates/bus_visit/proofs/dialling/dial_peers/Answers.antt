@@ -25,6 +25,7 @@ loop-peer-preserved g c = record {
       (g.D.Tells.outer c.dial_tcp.new.self) c.loop-peer.invariant.keeps (rw c.in-Err-Failed.field-0-is at c.in-Err-Failed.ensures.cause);
   awake = refl;
   poller = c.dial_tcp.ensures.keeps.poller ∙ c.loop-peer.invariant.poller;
+  unread = c.dial_tcp.ensures.keeps.moment ∙ c.loop-peer.invariant.unread;
   keeps = keeps-then (part.Visit c.args.wire) (g.D.Tells.outer c.args.dialer.now) (g.D.Tells.outer c.loop-peer.dialer)
       (g.D.Tells.outer c.dial_tcp.new.self) c.loop-peer.invariant.keeps
       (dial-keeps c.args.wire c.dial_tcp.result (g.D.Tells.outer c.loop-peer.dialer)

@@ -20,5 +20,6 @@ invariant-loop-peer g l = record {
   counted : EndingCounted l.wire l.ending (g.D.Tells.outer l.fn.dialer) (g.D.Tells.outer l.dialer);
   awake : is_awake l.ending ≡ true;
   poller : (g.D.Tells.outer l.dialer).poller_faults ≡ (g.D.Tells.outer l.fn.dialer).poller_faults;
+  unread : (g.D.Tells.outer l.dialer).moment ≡ (g.D.Tells.outer l.fn.dialer).moment;
   keeps : Keeps (part.Visit l.wire) (g.D.Tells.outer l.fn.dialer) (g.D.Tells.outer l.dialer);
 }

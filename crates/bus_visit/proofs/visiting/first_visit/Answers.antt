@@ -1,6 +1,8 @@
 use Rattle.bus_visit.proofs.TurnLemmas.{on-err}
 use Rattle.bus_visit.proofs.VisitFrames.{failure-awake}
-use Rattle.bus_visit.proofs.FirstVisit.{if-ok, refused-by, first-undialled, first-dialled, dials-keep, dialled-keeps, dialled-fails}
+use Rattle.bus_visit.proofs.FirstVisit.{if-ok, refused-by, first-undialled, first-dialled, dials-keep, dialled-keeps, dialled-fails, dialled-runs-out}
+use Rattle.bus_visit.proofs.TimedVisits.{forward-from, on-exhausted-map}
+use Rattle.bus_visit.specs.declared.visiting.Slot.{Slot}
 use Rattle.bus_visit.proofs.FailureLemmas.{on-poller-by}
 use Rattle.bus_visit.proofs.visiting.first_visit.Goals as goal
 
@@ -45,3 +47,14 @@ returns-in-Opened-clause-failed g c =
     dialled-fails c.args.session.now c.args.wire c.in_ok-reached.reached c.in-Opened.opened _ _ _ _
     c.args.reactor.now.core c.in_ok-reached.ensures.told c.in-Opened.is
     (rw c.dial.ensures.keeps.ample at fails)) c.visit_opened.ensures.failed
+
+pub returns-in-Opened-clause-forward : goal.returns-in-Opened-clause-forward
+returns-in-Opened-clause-forward g c =
+    if-ok c.visit_opened.result (λ slot. forward-from _ _ slot _ c.dial.ensures.unread) c.visit_opened.ensures.forward
+
+pub returns-in-Opened-clause-exhausted : goal.returns-in-Opened-clause-exhausted
+returns-in-Opened-clause-exhausted g c =
+    on-exhausted-map Slot _ _ c.visit_opened.result (λ out.
+    dialled-runs-out c.args.session.now c.args.wire c.in_ok-reached.reached c.in-Opened.opened _ _ _ _
+    c.args.reactor.now.core c.in_ok-reached.ensures.told c.in-Opened.is
+    (rw c.dial.ensures.keeps.ample at out)) c.visit_opened.ensures.exhausted

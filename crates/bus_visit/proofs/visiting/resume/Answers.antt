@@ -14,6 +14,7 @@ loop-ending-init g c = record {
   turning = inl (refl, refl, refl);
   poller = refl;
   keeps = keeps-same (part.Visit c.args.wire) _;
+  unread = refl;
   reports = refl;
 }
 
@@ -99,6 +100,7 @@ loop-ending-preserved g c = record {
   keeps = keeps-then (part.Visit c.args.wire) _ _ _ c.loop-ending.invariant.keeps
       (keeps-noted c.args.wire c.converse.result _ _ _ c.converse.ensures.keeps c.converse.ensures.cause
       c.note_not_ready.ensures.keeps);
+  unread = c.note_not_ready.ensures.keeps.moment ∙ (c.converse.ensures.keeps.moment ∙ c.loop-ending.invariant.unread);
   reports = c.note_not_ready.ensures.reports ∙ c.loop-ending.invariant.reports;
 }
 

@@ -12,6 +12,7 @@ invariant-loop-ending g l = record {
   turning : Turning l.wire l.key ((g.O.Tells.outer l.fn.outside).events) ((g.O.Tells.outer l.outside).events) l.fn.reactor.core l.reactor.core l.fn.client l.client;
   poller : (g.O.Tells.outer l.outside).poller_faults ≡ (g.O.Tells.outer l.fn.outside).poller_faults;
   keeps : Keeps (part.Visit l.wire) (g.O.Tells.outer l.fn.outside) (g.O.Tells.outer l.outside);
+  unread : (g.O.Tells.outer l.outside).moment ≡ (g.O.Tells.outer l.fn.outside).moment;
   reports : l.reactor.events ≡ l.fn.reactor.events;
 }
 

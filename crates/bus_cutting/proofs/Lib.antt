@@ -1,0 +1,9 @@
+mod LineLemmas
+mod Growing
+mod Asked
+mod Found
+mod Places
+mod Ends
+mod Courses
+mod Parts
+mod RowProofs

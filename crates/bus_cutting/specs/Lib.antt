@@ -1,0 +1,5 @@
+pub mod Opens
+pub mod Converse
+pub mod Draws
+pub mod Laws
+pub mod Rows

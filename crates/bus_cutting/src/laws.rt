@@ -1,0 +1,27 @@
+//! The laws. A function does nothing: its contract is the law.
+
+ghost use Rattle.bus_cutting.specs.Laws.{CuttingIsNoMatter, EndsAlike};
+ghost use Rattle.bus_cutting.specs.Rows.{WholeRows, CutRows};
+
+use bus_session::Session;
+
+/// The ending of a session, and what it wrote, are those of the whole inbound bytes: neither how reads and sends cut
+/// the bytes nor where they paused matters (D-Bus specification, Authentication Protocol).
+pub fn cutting_does_not_matter(session: &Session)
+    ensures { CuttingIsNoMatter session.now }
+{
+    let _deadline = &session.deadline;
+}
+
+/// Two courses of a session over one wire that draw from the same bytes have the same ending and wrote the same bytes.
+pub fn same_bytes_end_alike(session: &Session)
+    ensures { EndsAlike session.now }
+{
+    let _deadline = &session.deadline;
+}
+
+/// What comes of some small conversations, and one that is cut in two ways.
+pub fn small_conversations()
+    ensures whole { WholeRows }
+    ensures cut { CutRows }
+{}
