@@ -4,8 +4,11 @@ use Rattle.react_core.specs.declared.outside.Event.{Event}
 use Rattle.bus_session.specs.declared.ended.Ending.TheVariants as ending
 use Rattle.bus_session.specs.declared.session.Session.{Session}
 use Rattle.bus_session.specs.Dialling.{Opened}
-use Rattle.bus_session.specs.Outcomes.{Outcome}
+use Rattle.bus_session.specs.declared.ended.Ended.{Ended}
+use Rattle.bus_session.specs.Outcomes.{Outcome, outcome}
+use Rattle.bus_session.specs.Parts.{part}
 use Rattle.bus_session.specs.Alone.{alone}
+use Rattle.bus_record.specs.Isolation.{Ran}
 use Rattle.bus_cutting.specs.Opens.{opened}
 use Rattle.bus_cutting.specs.Converse.{Final, Conversed, converse}
 use Rattle.bus_cutting.specs.Draws.{DrawsFrom}
@@ -37,3 +40,20 @@ EndsAlike s =
     (o : Opened) (inbound : List ℕ) (fin : Final) (room : Option ℕ) (one two : List Event) (moment later : Option ℕ)
     (a b : Outcome) → Concludes s o inbound fin room one moment a → Concludes s o inbound fin room two later b →
     (a.ending ≡ b.ending) × (a.written ≡ b.written)
+
+-- In a run of any sessions, of which this is one, it opened this wire by its own events, which draw from these bytes,
+-- and neither its deadline nor the last round stopped it.
+pub record Drew (s : Session) (wire : ℕ) (e : Ended) (events : List Event) (o : Opened) (inbound : List ℕ) (fin : Final)
+    (room : Option ℕ) : Type 0 where
+  pub run : Ran s wire e events
+  pub opens : opened s (part wire events) ≡ Some o
+  pub draws : DrawsFrom inbound fin room (part wire events)
+  pub in_time : e.ending ≢ ending.TimedOut
+  pub over : e.ending ≢ ending.Waiting
+
+-- There its ending and what it wrote are those of the whole inbound bytes.
+abbrev pub CuttingIsNoMatterInRuns : Session → Type 0
+CuttingIsNoMatterInRuns s =
+    (wire : ℕ) (e : Ended) (events : List Event) (o : Opened) (inbound : List ℕ) (fin : Final) (room : Option ℕ) →
+    Drew s wire e events o inbound fin room →
+    converse s.party o inbound fin room ≡ Some (conversed_of (outcome e))

@@ -1,8 +1,9 @@
 //! The laws. A function does nothing: its contract is the law.
 
-ghost use Rattle.bus_cutting.specs.Laws.{CuttingIsNoMatter, EndsAlike};
+ghost use Rattle.bus_cutting.specs.Laws.{CuttingIsNoMatter, CuttingIsNoMatterInRuns, EndsAlike};
 ghost use Rattle.bus_cutting.specs.Rows.{WholeRows, CutRows};
 
+use bus_record::session_comes_to_its_part;
 use bus_session::Session;
 
 /// The ending of a session, and what it wrote, are those of the whole inbound bytes: neither how reads and sends cut
@@ -18,6 +19,14 @@ pub fn same_bytes_end_alike(session: &Session)
     ensures { EndsAlike session.now }
 {
     let _deadline = &session.deadline;
+}
+
+/// The same of each session of a run with the headline, as `open_all` gives it, whatever the other sessions do.
+pub fn cutting_does_not_matter_in_runs(session: &Session)
+    ensures { CuttingIsNoMatterInRuns session.now }
+{
+    cutting_does_not_matter(session);
+    session_comes_to_its_part(session);
 }
 
 /// What comes of some small conversations, and one that is cut in two ways.

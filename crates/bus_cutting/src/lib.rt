@@ -7,4 +7,7 @@
 
 mod laws;
 
-pub use laws::{cutting_does_not_matter, same_bytes_end_alike, small_conversations};
+pub use laws::{
+    cutting_does_not_matter, cutting_does_not_matter_in_runs, same_bytes_end_alike,
+    small_conversations,
+};

@@ -3,3 +3,4 @@ pub mod Following
 pub mod OverScene
 pub mod OverReal
 pub mod Forms
+pub mod OfItsOwn

@@ -1,13 +1,11 @@
 -- What the answer of `open_all` over any outside says of a script of sessions.
-use Rattle.std.proofs.Common.{◌≡◌, ℕ, Bool, true, ◌<◌, ◌≤◌, ◌^◌, ◌⊎◌, inl, inr, Option, Some, Ok, Err, List, [], length, refl, sym, ◌∙◌, subst, arith}
+use Rattle.std.proofs.Common.{◌≡◌, ℕ, Bool, ◌<◌, ◌≤◌, ◌^◌, ◌⊎◌, inl, inr, Option, Some, Ok, Err, List, [], length, refl, sym, subst, arith}
 use Rattle.std.proofs.lemmas.List.{append-nil}
 use Rattle.std.specs.Io.KnownBytes.{Consumes, IsAtEnd}
 use Rattle.react_core.specs.declared.outside.Event.{Event}
 use Rattle.react_core.specs.declared.reactor.Counter.{Counter}
 use Rattle.react_core.specs.Core.{Core}
 use Rattle.react_core.specs.Outer.{Outer, All, Keeps, keeps-same}
-use Rattle.std.specs.List.{list_all}
-use Rattle.std.proofs.lemmas.List.Sums.{list_all-from_AllPass}
 use Rattle.react_core.specs.Told.{Rose, told}
 use Rattle.bus_script.specs.Script.{Script, script}
 use Rattle.bus_script.specs.declared.reading.ScriptForm.TheVariants as forms
@@ -15,7 +13,6 @@ use Rattle.bus_script.specs.Printed.{printed, session_lines}
 use Rattle.bus_session.specs.declared.ended.Ended.{Ended}
 use Rattle.bus_session.specs.declared.session.Session.{Session}
 use Rattle.bus_printed.specs.Names.{Names}
-use Rattle.bus_record.specs.Failing.{PollerFailed}
 use Rattle.bus_peers.specs.Faults.{EndedsCounted}
 use Rattle.bus_peers.specs.Headline.{Opened, RefusedWith}
 use Rattle.bus_peers.specs.Exhausted.{NoneLeft}

@@ -1,9 +1,9 @@
 -- What the words of a command line ask for.
-use Rattle.std.specs.Prelude.{ℕ, List, [], ◌∷◌, Option, Some, None, Result, Ok, Err, codes, if◌then◌else◌}
-use Rattle.std.specs.Option.{option_map}
+use Rattle.std.specs.Prelude.{ℕ, ◌≤◌, List, [], ◌∷◌, Option, Some, None, Result, codes, if◌then◌else◌}
+use Rattle.std.specs.Option.{option_map, ok_or}
 use Rattle.bus_script.specs.Words.{◌is◌, number_of}
 use Rattle.bus_script.specs.declared.line.Reason.{Reason}
-use Rattle.bus_script.specs.declared.line.Reason.TheVariants.{Words, NotBuilt}
+use Rattle.bus_script.specs.declared.line.Reason.TheVariants.{Words}
 use Rattle.bus_check.specs.declared.kind.Kind.{Kind}
 use Rattle.bus_check.specs.declared.kind.Kind.TheVariants as kind
 use Rattle.bus_open.specs.declared.command.Command.{Command}
@@ -29,25 +29,18 @@ command (name ∷ count ∷ []) = if name is codes "bulk" then option_map Bulk (
 command (name ∷ kind ∷ text ∷ []) = if name is codes "check" then option_map Check (kind_of kind) else None
 command _ = None
 
--- of the commands, all but `bulk` are built
-abbrev pub built : Option Command → Result Command Reason
-built (Some Play) = Ok Play
-built (Some (Check kind)) = Ok (Check kind)
-built (Some Open) = Ok Open
-built (Some (Bulk count)) = Err NotBuilt
-built None = Err Words
-
 -- what the words ask for, or why they are refused
 abbrev pub asked : List (List ℕ) → Result Command Reason
-asked words = built (command words)
+asked words = ok_or (command words) Words
 
 -- the text that is to be checked
 abbrev pub checked_text : List (List ℕ) → List ℕ
 checked_text (name ∷ kind ∷ text ∷ []) = text
 checked_text _ = []
 
-abbrev pub IsBuilt : Command → Type 0
-IsBuilt Play = Unit {0}
-IsBuilt (Check kind) = Unit {0}
-IsBuilt Open = Unit {0}
-IsBuilt (Bulk count) = ⊥
+-- a bulk run has so many sessions at most
+abbrev pub IsOfFew : Command → Type 0
+IsOfFew Play = Unit {0}
+IsOfFew (Check kind) = Unit {0}
+IsOfFew Open = Unit {0}
+IsOfFew (Bulk count) = count ≤ 10000

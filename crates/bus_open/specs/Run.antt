@@ -30,7 +30,11 @@ use Rattle.bus_check.specs.declared.kind.Kind.{Kind}
 use Rattle.bus_check.specs.Says.{Says}
 use Rattle.bus_open.specs.Commands.{asked, checked_text}
 use Rattle.bus_open.specs.declared.command.Command.{Command}
-use Rattle.bus_open.specs.declared.command.Command.TheVariants.{Play, Open, Check}
+use Rattle.bus_open.specs.declared.command.Command.TheVariants.{Play, Open, Bulk, Check}
+use Rattle.bus_open.specs.declared.playing.Report.{Report}
+use Rattle.bus_open.specs.declared.playing.Report.TheVariants.{Whole, Summary}
+use Rattle.bus_bulk.specs.Bulk.{bulk}
+use Rattle.bus_bulk.specs.Summary.{summary_text}
 
 -- The text came from the source: to its end, or more than a script may have.
 pub record WasRead (old new : Option (List ℕ)) (text : List ℕ) : Type 0 where
@@ -62,6 +66,11 @@ pub record ComesTo (answers : Queues) (sessions : List Session) (rounds : ℕ) (
   pub headline : Headline sessions rounds pieces endeds events
   -- no others are printed so
   pub named : Names (printed endeds events) endeds events
+
+-- what is written of endings and a record
+abbrev pub reported : Report → List Ended → List Event → List ℕ
+reported Whole endeds events = printed endeds events
+reported (Summary sessions) endeds events = summary_text sessions endeds
 
 -- Endings and a record follow from a script.
 pub record FollowFrom (s : Script) (endeds : List Ended) (events : List Event) : Type 0 where
@@ -124,6 +133,11 @@ pub data Results {Origin : Type 0} (words : List (List ℕ)) (old new : Option (
   opened : (endeds : List Ended) (well : Bool) (text : List ℕ) → asked words ≡ Ok Open →
       Opens old new before after endeds → well ≡ all_open endeds → text ≡ session_lines endeds →
       Names text endeds [] → Results words old new before after well text
+  -- of so many sessions of the kinds of a bulk run: every one is open; the text sums up endings that follow from the
+  -- script of that run; nothing is read
+  bulked : (sessions : ℕ) (endeds : List Ended) (events : List Event) (well : Bool) (text : List ℕ) →
+      asked words ≡ Ok (Bulk sessions) → Keeps old new → FollowFrom (bulk sessions) endeds events →
+      well ≡ all_open endeds → text ≡ summary_text sessions endeds → Results words old new before after well text
   -- of a text that is checked: it is one of its kind; nothing is read
   checked : (kind : Kind) (well : Bool) (text : List ℕ) → asked words ≡ Ok (Check kind) → Keeps old new →
       Says kind (checked_text words) well text → Results words old new before after well text

@@ -1,8 +1,8 @@
 //! What the words of a command line ask for.
 
-ghost use Rattle.std.specs.Prelude.{◌≡◌, ◌^◌, ◌∷◌, [], IfOk, map, string_bytes};
+ghost use Rattle.std.specs.Prelude.{◌≡◌, ◌≤◌, ◌^◌, ◌∷◌, [], IfOk, IfSome, map, string_bytes};
 ghost use Rattle.bus_script.specs.Words.{number_of};
-ghost use Rattle.bus_open.specs.Commands.{asked, command, kind_of, checked_text, IsBuilt};
+ghost use Rattle.bus_open.specs.Commands.{asked, command, kind_of, checked_text, IsOfFew};
 
 use bus_check::Kind;
 use bus_script::{Reason, number_below};
@@ -26,7 +26,8 @@ const SESSIONS_LIMIT: u64 = 10_001;
 impl Command {
     /// The command that these words name, where they name one.
     pub fn from_words(words: &[String]) -> Option<Command>
-        ensures { result ≡ command (map string_bytes words.now) }
+        ensures command { result ≡ command (map string_bytes words.now) }
+        ensures few { IfSome result IsOfFew }
     {
         match words {
             [name] => plain_command(name.as_str()),
@@ -55,22 +56,17 @@ fn kind_named(word: &str) -> Option<Kind>
     }
 }
 
-/// What the words ask for, or why they are refused. Of the commands, `bulk` is not built.
+/// What the words ask for, or why they are refused.
 pub fn asked(words: &[String]) -> Result<Command, Reason>
     ensures answer { result ≡ asked (map string_bytes words.now) }
-    ensures built { IfOk result IsBuilt }
+    ensures few { IfOk result IsOfFew }
 {
-    match Command::from_words(words) {
-        Some(Command::Play) => Ok(Command::Play),
-        Some(Command::Open) => Ok(Command::Open),
-        Some(Command::Check(kind)) => Ok(Command::Check(kind)),
-        Some(Command::Bulk(_)) => Err(Reason::NotBuilt),
-        None => Err(Reason::Words),
-    }
+    Command::from_words(words).ok_or(Reason::Words)
 }
 
 fn plain_command(name: &str) -> Option<Command>
-    ensures { result ≡ command (name.now ∷ []) }
+    ensures command { result ≡ command (name.now ∷ []) }
+    ensures few { IfSome result IsOfFew }
 {
     match name {
         "play" => Some(Command::Play),
@@ -80,7 +76,8 @@ fn plain_command(name: &str) -> Option<Command>
 }
 
 fn counting_command(name: &str, count: &str) -> Option<Command>
-    ensures { result ≡ command (name.now ∷ count.now ∷ []) }
+    ensures command { result ≡ command (name.now ∷ count.now ∷ []) }
+    ensures few { IfSome result IsOfFew }
 {
     match name {
         "bulk" => bulk_count(count).map(Command::Bulk),
@@ -90,14 +87,16 @@ fn counting_command(name: &str, count: &str) -> Option<Command>
 
 /// A number without a sign and without a zero in front, below `SESSIONS_LIMIT`.
 fn bulk_count(word: &str) -> Option<u32>
-    ensures { result ≡ number_of 10001 word.now }
+    ensures number { result ≡ number_of 10001 word.now }
+    ensures few { IfSome result (λ count. count ≤ 10000) }
 {
     let count = number_below(word, SESSIONS_LIMIT)?;
     Some(count as u32)
 }
 
 fn checking_command(name: &str, kind: &str, _text: &str) -> Option<Command>
-    ensures { result ≡ command (name.now ∷ kind.now ∷ _text.now ∷ []) }
+    ensures command { result ≡ command (name.now ∷ kind.now ∷ _text.now ∷ []) }
+    ensures few { IfSome result IsOfFew }
 {
     match name {
         "check" => kind_named(kind).map(Command::Check),

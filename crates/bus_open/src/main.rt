@@ -1,8 +1,9 @@
-//! Opens D-Bus connections over sockets, plays a script of such openings, or says what a text is.
+//! Opens D-Bus connections over sockets, plays a script of such openings, or of its own making, or says what a text is.
 //!
 //! [`program::run`] is the program over any source, sink and outside; `main` hands it the real ones.
 #![tactic(auto)]
 
+mod bulk;
 mod checking;
 pub mod command;
 mod endings;

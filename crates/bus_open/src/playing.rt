@@ -7,13 +7,14 @@ ghost use Rattle.react_core.specs.Told.{Rose};
 ghost use Rattle.react_core.specs.declared.outside.Event.{Event};
 ghost use Rattle.react_core.specs.declared.outside.Rooms.TheVariants as rooms;
 ghost use Rattle.bus_script.specs.Script.{Script, Refused, script};
+ghost use Rattle.std.specs.Prelude.{IfOk, string_bytes};
 ghost use Rattle.bus_script.specs.Printed.{printed, refusal};
 ghost use Rattle.bus_session.specs.declared.ended.Ended.{Ended};
 ghost use Rattle.bus_printed.specs.Names.{Names};
 ghost use Rattle.bus_open.specs.Streams.{GainsFront, GainsOrFails, LosesFront};
 ghost use Rattle.bus_open.specs.Run.{ComesTo, Plays, Reads, PollerFails, ScriptFails, RefusesScript, RunsOut};
 ghost use Rattle.bus_open.specs.Run.{ScriptRunsOut};
-ghost use Rattle.bus_open.specs.Run.{all_open};
+ghost use Rattle.bus_open.specs.Run.{all_open, reported};
 ghost use Rattle.bus_script.specs.declared.reading.ScriptForm.TheVariants as forms;
 
 use crate::endings::{LONGEST_SCRIPT, MOST_REPORTS, status_of, write_endings};
@@ -21,37 +22,67 @@ use crate::refusal::refuse;
 use crate::status;
 use crate::stream::{Sink, Source};
 use crate::whole::{ReadError, read_all};
+use bus_bulk::summary;
 use bus_peers::{Ended, Played, Scene, ScriptError, ScriptForm, open_all};
 use bus_printed::names_alone;
 use bus_script::printed;
-use react_core::outside::Event;
+use react_core::outside::{Event, OutOfMemory};
 use react_core::reactor::Reactor;
 use std::alloc::Global;
 
-/// Writes the endings and the events.
-fn report<K: Sink>(alloc: Global, sink: &mut K, endeds: &[Ended], events: &[Event]) -> u8
+/// What is written of the sessions that were opened.
+#[derive(Clone, Copy, Debug)]
+pub(crate) enum Report {
+    /// A line for each session and one for each event.
+    Whole,
+    /// One line that sums so many sessions up.
+    Summary(u32),
+}
+
+fn report_text(
+    alloc: Global,
+    report: Report,
+    endeds: &[Ended],
+    events: &[Event],
+) -> Result<String, OutOfMemory>
+    ensures { IfOk result (λ text. string_bytes text ≡ reported report endeds.now events.now) }
+{
+    match report {
+        Report::Whole => Ok(printed(alloc, endeds, events)?),
+        Report::Summary(sessions) => summary(alloc, sessions, endeds),
+    }
+}
+
+/// Writes what is to be written of the endings and the events.
+fn write_report<K: Sink>(
+    alloc: Global,
+    sink: &mut K,
+    report: Report,
+    endeds: &[Ended],
+    events: &[Event],
+) -> u8
     ensures status { (result ≡ 0) ⊎ (result ≡ 1) ⊎ (result ≡ 4) ⊎ (result ≡ 5) }
     ensures all_open { result ≡ 0 →
         (all_open endeds.now ≡ true)
-        × Appends (K.held sink.old) (K.held sink.new) (printed endeds.now events.now) }
+        × Appends (K.held sink.old) (K.held sink.new) (reported report endeds.now events.now) }
     ensures other { result ≡ 1 →
         (all_open endeds.now ≡ false)
-        × Appends (K.held sink.old) (K.held sink.new) (printed endeds.now events.now) }
+        × Appends (K.held sink.old) (K.held sink.new) (reported report endeds.now events.now) }
     ensures failed { result ≡ 4 →
         Rose (K.write_faults sink.old) (K.write_faults sink.new)
-        × GainsFront (K.held sink.old) (K.held sink.new) (printed endeds.now events.now) }
+        × GainsFront (K.held sink.old) (K.held sink.new) (reported report endeds.now events.now) }
     ensures nothing { result ≡ 5 → Keeps (K.held sink.old) (K.held sink.new) }
     ensures named { Names (printed endeds.now events.now) endeds.now events.now }
 {
     names_alone(endeds, events);
-    let Ok(text) = printed(alloc, endeds, events) else {
+    let Ok(text) = report_text(alloc, report, endeds, events) else {
         return status::OUT_OF_MEMORY;
     };
     write_endings(sink, endeds, text.as_str())
 }
 
-/// Opens the sessions of a script over its scene, and writes how they ended.
-fn perform<K: Sink>(alloc: Global, sink: &mut K, played: Played) -> u8
+/// Opens the sessions of a script over its scene, and writes what is to be written of them.
+pub(crate) fn perform<K: Sink>(alloc: Global, sink: &mut K, wanted: Report, played: Played) -> u8
     requires new { played.scene.told ≡ [] }
     requires unwaited { played.scene.rooms ≡ rooms.Unwaited }
     requires few { length played.sessions.items < 2 ^ 32 }
@@ -59,16 +90,16 @@ fn perform<K: Sink>(alloc: Global, sink: &mut K, played: Played) -> u8
     ensures opened { result ≡ 0 →
         (endeds : List Ended) × (r : List Event)
         × ComesTo played.scene.script played.sessions.items played.rounds endeds r × (all_open endeds ≡ true)
-        × Appends (K.held sink.old) (K.held sink.new) (printed endeds r) }
+        × Appends (K.held sink.old) (K.held sink.new) (reported wanted endeds r) }
     ensures other { result ≡ 1 →
         (endeds : List Ended) × (r : List Event)
         × ComesTo played.scene.script played.sessions.items played.rounds endeds r × (all_open endeds ≡ false)
-        × Appends (K.held sink.old) (K.held sink.new) (printed endeds r) }
+        × Appends (K.held sink.old) (K.held sink.new) (reported wanted endeds r) }
     ensures failed { result ≡ 4 →
         (endeds : List Ended) × (r : List Event)
         × ComesTo played.scene.script played.sessions.items played.rounds endeds r
         × Rose (K.write_faults sink.old) (K.write_faults sink.new)
-        × GainsFront (K.held sink.old) (K.held sink.new) (printed endeds r) }
+        × GainsFront (K.held sink.old) (K.held sink.new) (reported wanted endeds r) }
     ensures nothing { result ≡ 5 → Keeps (K.held sink.old) (K.held sink.new) }
     ensures poller { result ≡ 6 →
         PollerFails played.scene.script played.sessions.items played.rounds
@@ -90,7 +121,7 @@ fn perform<K: Sink>(alloc: Global, sink: &mut K, played: Played) -> u8
     let opened = open_all(alloc, &mut reactor, &mut scene, sessions, rounds);
     let events = scene.events();
     match opened {
-        Ok(endeds) => report(alloc, sink, endeds.as_slice(), events),
+        Ok(endeds) => write_report(alloc, sink, wanted, endeds.as_slice(), events),
         Err(refusal) => status_of(refusal),
     }
 }
@@ -154,7 +185,7 @@ pub(crate) fn play<S: Source, K: Sink>(alloc: Global, source: &mut S, sink: &mut
         Err(ReadError::OutOfMemory) => return status::OUT_OF_MEMORY,
     };
     match Scene::from_script(alloc, text.as_slice(), ScriptForm::Play) {
-        Ok(played) => perform(alloc, sink, played),
+        Ok(played) => perform(alloc, sink, Report::Whole, played),
         Err(ScriptError::Refused { line, reason }) => refuse(alloc, sink, line, reason),
         Err(ScriptError::OutOfMemory) => status::OUT_OF_MEMORY,
     }

@@ -15,6 +15,7 @@ ghost use Rattle.bus_script.specs.declared.reading.ScriptForm.{ScriptForm};
 ghost use Rattle.bus_script.specs.declared.reading.ScriptForm.TheVariants as forms;
 ghost use Rattle.bus_open.specs.declared.command.Command.TheVariants.{Play, Open};
 
+use crate::bulk::run_bulk;
 use crate::checking::check_text;
 use crate::command::{Command, asked, checked_text};
 use crate::opening::open_script;
@@ -28,7 +29,8 @@ use std::alloc::Global;
 ///
 /// `play` reads a script from the source, opens its sessions over the scene that the script makes, and writes the
 /// endings and the record of the events into the sink. `open` reads a script of sessions alone, opens them over the
-/// real outside, and writes the endings. `check` reads a text as one of its kind and writes what it is.
+/// real outside, and writes the endings. `bulk` makes a script of so many sessions, opens them as `play` does, and
+/// writes one line that sums their endings up. `check` reads a text as one of its kind and writes what it is.
 #[tactic(auto, using(crate::proofs::OverReal::kept))]
 pub fn run<S: Source, K: Sink, O: Outside>(
     alloc: Global,
@@ -108,7 +110,7 @@ pub fn run<S: Source, K: Sink, O: Outside>(
         Ok(Command::Play) => play(alloc, source, sink),
         Ok(Command::Open) => open_script(alloc, source, sink, real),
         Ok(Command::Check(kind)) => check_text(alloc, sink, kind, checked_text(words)),
-        Ok(Command::Bulk(_)) => unreachable!(),
+        Ok(Command::Bulk(sessions)) => run_bulk(alloc, sink, sessions),
         Err(reason) => refuse(alloc, sink, 0, reason),
     }
 }

@@ -1,15 +1,14 @@
 -- The reactor has a timer for each session that sleeps with a deadline: what visits do to the timers.
-use Rattle.std.proofs.Common.{◌≡◌, ◌≢◌, ◌≤◌, ◌<◌, ◌⊎◌, inl, inr, ◌+◌, ℕ, zero, suc, Bool, true, false, not, ◌&&◌, nat_lt}
+use Rattle.std.proofs.Common.{◌≡◌, ◌≢◌, ◌≤◌, ◌<◌, inl, inr, ◌+◌, ℕ, zero, suc, Bool, true, false, not, nat_lt}
 use Rattle.std.proofs.Common.{◌==◌, if◌then◌else◌, List, [], ◌∷◌, ◌++◌, length, Option, Some, None, slice_get, slice_set}
 use Rattle.std.proofs.Common.{refl, sym, ◌∙◌, ap, subst, arith, append_assoc, append-nil}
-use Rattle.std.specs.Prelude.{filter}
-use Rattle.std.proofs.lemmas.Bool.{both_ways, eq-eqb, ne_eqb, lt-ltb, ltb-true, ltb-false}
+use Rattle.std.proofs.lemmas.Bool.{eq-eqb, ne_eqb, lt-ltb}
 use Rattle.std.proofs.lemmas.Option.{none-some, same_Some}
 use Rattle.std.proofs.lemmas.List.Elements.{filter-append}
 use Rattle.react_timers.specs.declared.timer.LiveTimer.{LiveTimer}
 use Rattle.react_timers.specs.Live.{added, without, is_at}
 use Rattle.react_core.specs.declared.outside.Event.{Event}
-use Rattle.react_core.specs.Core.{Core, removed, timers_applied}
+use Rattle.react_core.specs.Core.{Core, timers_applied}
 use Rattle.bus_opening.specs.Openings.{Opening}
 use Rattle.bus_session.specs.declared.session.Session.{Session}
 use Rattle.bus_visit.specs.declared.visiting.Slot.{Slot}

@@ -25,7 +25,7 @@ use Rattle.bus_peers.specs.declared.open.OpenError.{OpenError}
 use Rattle.bus_peers.specs.declared.open.OpenError.TheVariants as open_err
 use Rattle.bus_visit.specs.declared.visiting.Slot.{Slot}
 use Rattle.bus_visit.specs.declared.visiting.Slot.TheVariants as slot
-use Rattle.bus_session.specs.Counts.{is_notice, waits_in, notices_in}
+use Rattle.bus_session.specs.Counts.{waits_in, notices_in}
 use Rattle.bus_peers.specs.inside.Due.{is_in, is_due, due_at, late_at, AreDue}
 use Rattle.bus_peers.specs.inside.Rounds.{round_events}
 use Rattle.bus_visit.specs.Registry.{Held, held_at, reported_held, after_report_held, arming, waits as held_waits}
@@ -41,7 +41,7 @@ use Rattle.bus_peers.specs.inside.Rounds.{Rounded, HaveWires, OnExhausted}
 use Rattle.bus_peers.specs.inside.Slots.{Owned, Stands, AllStand, CallStands, CallStandsAfter, VisitsKeepCall, RoundKeepsCall, RoundsSettleCall, CallSettled, Told, CallHalted, Stuck}
 use Rattle.bus_visit.specs.laws.Records.{waits_in-append, notices_in-append, unnumbered-waits, unnumbered-notices}
 use Rattle.bus_visit.specs.laws.Armings.{arming-unnumbered}
-use Rattle.bus_peers.specs.inside.Alarms.{Alarmed, live, alarm_of}
+use Rattle.bus_peers.specs.inside.Alarms.{Alarmed}
 use Rattle.bus_peers.proofs.RoundAlarms.{above-at, late-at-slot, late-none-at, late-stands, late-has}
 use Rattle.bus_peers.proofs.WaitLimits.{limit-same}
 use Rattle.bus_peers.proofs.RoundLemmas.{round-held, round-apart}

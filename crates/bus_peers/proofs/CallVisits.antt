@@ -25,7 +25,6 @@ use Rattle.bus_peers.specs.inside.Shows.{Shows}
 use Rattle.bus_visit.specs.Shown.{IsBetweenCalls, shown}
 use Rattle.bus_visit.specs.First.{FirstVisits}
 use Rattle.bus_visit.specs.Timed.{MakesVisit, limit_after}
-use Rattle.bus_session.specs.Counts.{notices_in}
 use Rattle.bus_peers.specs.inside.Slots.{Stands, AllStand, IsNew, CallStands, CallStandsAfter, VisitsKeepCall, VisitInRecord, Told}
 use Rattle.bus_visit.specs.laws.Records.{waits_in-append, notices_in-append}
 use Rattle.bus_peers.proofs.TimedVisits.{goes-again, goes-first}

@@ -10,7 +10,7 @@ use Rattle.react_core.specs.declared.reactor.ReactError.{ReactError}
 use Rattle.react_core.specs.declared.reactor.ReactError.TheVariants.{Poller, OutOfMemory, Exhausted}
 use Rattle.react_core.specs.Core.{Core, ReactorState}
 use Rattle.react_core.specs.Timing.{wait_limit}
-use Rattle.react_core.specs.Reports.{Arming, Try, LackSo, armed_told, after_reports, armings_by_all, taken_by_all, tries_told, worse, worst}
+use Rattle.react_core.specs.Reports.{Arming, Try, LackSo, armed_told, armings_by_all, tries_told, worse, worst}
 use Rattle.react_core.specs.laws.Tries.{tries-ok}
 use Rattle.react_core.specs.Round.{Ran, Course, CourseSteps, Unread, Read, Pause, Unwaited, Waited, Reread, Unreread, is_quiet, pause_again, pause_reports, pause_told, reports_of}
 use Rattle.react_core.specs.Step.{WokeAll, begun_round, finish_wakes, finished_round}

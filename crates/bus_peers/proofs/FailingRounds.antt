@@ -1,5 +1,5 @@
 -- A round of the call under way in which a call of the poller failed.
-use Rattle.std.proofs.Common.{◌≡◌, ◌≢◌, ◌<◌, ◌+◌, ℕ, Bool, List, [], ◌++◌, length, map, None, refl, sym, ◌∙◌, ap}
+use Rattle.std.proofs.Common.{◌≡◌, ◌≢◌, ◌<◌, ◌+◌, ℕ, Bool, List, [], ◌++◌, length, map, refl, sym, ◌∙◌, ap}
 use Rattle.std.proofs.Common.{Option, subst, arith}
 use Rattle.std.specs.List.{list_any}
 use Rattle.react_core.specs.declared.outside.Event.{Event}

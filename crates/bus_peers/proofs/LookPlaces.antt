@@ -1,5 +1,5 @@
 -- A look at the clock leaves the sources as the pieces showed them.
-use Rattle.std.proofs.Common.{◌≡◌, ℕ, Bool, true, false, ◌==◌, ◌&&◌, if◌then◌else◌, List, [], ◌∷◌, ◌++◌, Option, Some, None}
+use Rattle.std.proofs.Common.{◌≡◌, ℕ, Bool, true, false, ◌==◌, if◌then◌else◌, List, ◌∷◌, ◌++◌, Option, Some, None}
 use Rattle.std.proofs.Common.{refl, sym, ◌∙◌, ap}
 use Rattle.std.specs.List.{fold}
 use Rattle.std.proofs.lemmas.List.Sums.{fold-append}
@@ -12,7 +12,7 @@ use Rattle.bus_record.specs.Places.{stays_armed, armed_by, paused, last_stop_by}
 use Rattle.bus_record.specs.Visits.{here}
 use Rattle.bus_visit.specs.Registry.{Held}
 use Rattle.bus_visit.specs.Timed.{notice_by}
-use Rattle.bus_peers.specs.inside.Shows.{Shows, ShowsAsleep}
+use Rattle.bus_peers.specs.inside.Shows.{Shows}
 use Rattle.bus_peers.proofs.Sides.{and_true}
 use Rattle.bus_peers.proofs.VisitShows.{stands-same}
 

@@ -1,14 +1,14 @@
 -- A visit that comes to read the clock: it ends the session, makes its timer, or leaves it asleep.
-use Rattle.std.proofs.Common.{◌≡◌, ◌≤◌, ◌<◌, ℕ, Bool, true, false, nat_le, ◌==◌, ◌&&◌, if◌then◌else◌, List, [], ◌∷◌, ◌++◌}
-use Rattle.std.proofs.Common.{Option, Some, None, refl, sym, ◌∙◌, ap}
+use Rattle.std.proofs.Common.{◌≡◌, ◌≤◌, ◌<◌, ℕ, Bool, true, false, ◌==◌, ◌&&◌, if◌then◌else◌, List, [], ◌∷◌, ◌++◌}
+use Rattle.std.proofs.Common.{Option, Some, None, refl, ◌∙◌, ap}
 use Rattle.std.proofs.lemmas.Bool.{eq-eqb, le-leb, lt-leb}
 use Rattle.react_core.specs.declared.outside.Event.{Event}
 use Rattle.react_core.specs.declared.outside.Event.TheVariants as event
 use Rattle.bus_session.specs.declared.session.Session.{Session}
 use Rattle.bus_session.specs.Alone.{Course, has_reached}
 use Rattle.bus_record.specs.Pieces.{Pieces}
-use Rattle.bus_record.specs.Places.{notified, notified_by, notified_through}
-use Rattle.bus_record.specs.Visits.{Here, here, here_by, Stage, reading, leaving, notifying, finished, goes_on, starts}
+use Rattle.bus_record.specs.Places.{notified, notified_through}
+use Rattle.bus_record.specs.Visits.{Here, here, here_by, reading, leaving, notifying, finished, goes_on, starts}
 use Rattle.bus_record.specs.Visits.{after_reading}
 use Rattle.bus_record.specs.Going.{here_through, goes_on-append}
 use Rattle.bus_visit.specs.Calls.{AreCalls}

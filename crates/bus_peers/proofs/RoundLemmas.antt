@@ -1,5 +1,5 @@
 -- What a round wakes, and what the record shows of it.
-use Rattle.std.proofs.Common.{◌≡◌, ◌<◌, ◌≤◌, ◌+◌, ◌-◌, ◌^◌, ℕ, zero, suc, Bool, true, false, ◌||◌, ◌&&◌, eqb, ◌==◌, List, []}
+use Rattle.std.proofs.Common.{◌≡◌, ◌<◌, ◌≤◌, ◌+◌, ℕ, zero, suc, Bool, true, false, ◌||◌, ◌&&◌, eqb, ◌==◌, List, []}
 use Rattle.std.proofs.Common.{◌∷◌, ◌++◌, length, map, Option, Some, None, Result, Ok, Err, IsErrAnd, slice_index}
 use Rattle.std.proofs.Common.{slice_index_or, nat_cmp, IsSorted, IsPermutation, Decides, refl, sym, ◌∙◌, ap, subst}
 use Rattle.std.proofs.Common.{arith}

@@ -1,6 +1,6 @@
 -- The slots of the sessions: which keys they own, one of them, one replaced, and one more; and what was told, in all cases.
-use Rattle.std.proofs.Common.{◌≡◌, ◌≢◌, ◌≤◌, ◌<◌, ◌⊎◌, inl, inr, ℕ, ◌+◌, zero, suc, Bool, true, false, not, ◌&&◌}
-use Rattle.std.proofs.Common.{nat_lt, ◌==◌, List, [], ◌∷◌, ◌++◌, length, map, Option, Some, None, slice_get}
+use Rattle.std.proofs.Common.{◌≡◌, ◌≢◌, ◌≤◌, ◌<◌, ◌⊎◌, inl, inr, ℕ, ◌+◌, zero, suc, Bool, true, false, ◌&&◌}
+use Rattle.std.proofs.Common.{nat_lt, ◌==◌, List, [], ◌∷◌, ◌++◌, length, Option, Some, None, slice_get}
 use Rattle.std.proofs.Common.{slice_set, refl, sym, ◌∙◌, ap, subst, arith}
 use Rattle.std.specs.List.{list_all}
 use Rattle.std.proofs.lemmas.Bool.{both_ways, and_parts, and_from, or_parts, eq-eqb, ne_eqb, ltb-true, lt-ltb}
@@ -18,7 +18,7 @@ use Rattle.bus_peers.specs.declared.open.OpenError.{OpenError}
 use Rattle.bus_peers.specs.declared.open.OpenError.TheVariants as open_err
 use Rattle.bus_session.specs.declared.session.Session.{Session}
 use Rattle.bus_peers.specs.inside.Due.{RisesFrom}
-use Rattle.bus_visit.specs.Shown.{shown, Tags, tags, tag_at, without_tag, has_wire, Single, are_below}
+use Rattle.bus_visit.specs.Shown.{Tags, tags, tag_at, without_tag, has_wire, Single, are_below}
 use Rattle.bus_visit.specs.Visited.{tags_after}
 use Rattle.bus_visit.specs.First.{FirstTags, FirstVisits, undialled, dialled}
 use Rattle.bus_peers.proofs.VisitTells.{KeyAt, VisitDoes, visit-does}

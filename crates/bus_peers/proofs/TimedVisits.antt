@@ -1,13 +1,12 @@
 -- What a visit with its look at the clock comes to, in the record.
-use Rattle.std.proofs.Common.{◌≡◌, ◌≢◌, ◌≤◌, ◌<◌, ◌+◌, ℕ, Bool, true, false, not, ◌==◌, if◌then◌else◌, List, [], ◌∷◌, ◌++◌}
+use Rattle.std.proofs.Common.{◌≡◌, ◌≤◌, ◌<◌, ◌+◌, ℕ, Bool, true, false, not, if◌then◌else◌, List, [], ◌∷◌, ◌++◌}
 use Rattle.std.proofs.Common.{map, Option, Some, None, is_some, inl, refl, sym, ◌∙◌, ap, subst, arith, append_assoc}
 use Rattle.std.specs.Prelude.{count_by, is_none}
-use Rattle.std.specs.List.{fold}
 use Rattle.std.specs.Option.{option_map, option_and_then}
 use Rattle.std.proofs.lemmas.Bool.{eq-eqb, le-leb}
 use Rattle.std.proofs.lemmas.List.{append-nil}
 use Rattle.std.proofs.lemmas.List.Sums.{sum_by-append, fold-append}
-use Rattle.std.proofs.lemmas.Option.{none-some, same_Some}
+use Rattle.std.proofs.lemmas.Option.{none-some}
 use Rattle.react_core.specs.declared.outside.Event.{Event}
 use Rattle.react_core.specs.declared.outside.Event.TheVariants as event
 use Rattle.react_core.specs.declared.reactor.Dir.{Dir}
@@ -26,9 +25,9 @@ use Rattle.bus_session.specs.Alone.{Talked, Course, course, concluded, pause_end
 use Rattle.bus_session.specs.Alone.{has_reached}
 use Rattle.bus_record.specs.Pieces as pieces
 use Rattle.bus_record.specs.Pieces.{Pieces, ◌▸◌, visit, is_modify}
-use Rattle.bus_record.specs.Places.{key_of, key_by, key_through, waits, paused, moment, last_reading, last_reading_by}
+use Rattle.bus_record.specs.Places.{key_of, key_by, moment, last_reading, last_reading_by}
 use Rattle.bus_record.specs.Places.{notified, notified_by, notified_through, is_early, is_before}
-use Rattle.bus_record.specs.Visits.{finished, reading, notifying, Visit}
+use Rattle.bus_record.specs.Visits.{finished, reading, Visit}
 use Rattle.bus_record.specs.Settled.{comes_to}
 use Rattle.bus_visit.specs.declared.visiting.Slot.{Slot}
 use Rattle.bus_visit.specs.declared.visiting.Slot.TheVariants as slot
@@ -38,11 +37,11 @@ use Rattle.bus_visit.specs.declared.timing.Limit.{Limit}
 use Rattle.bus_visit.specs.Counts.{after_begun}
 use Rattle.bus_visit.specs.Conversed.{stands_at}
 use Rattle.bus_visit.specs.Dialled.{dials_of}
-use Rattle.bus_visit.specs.Registry.{Held, held_at, registry, without_held}
+use Rattle.bus_visit.specs.Registry.{Held, held_at, without_held}
 use Rattle.bus_visit.specs.Shown.{IsBetweenCalls, shown}
 use Rattle.bus_visit.specs.Visited.{MakesRegisteredVisit}
 use Rattle.bus_visit.specs.First.{FirstVisits, undialled, dialled}
-use Rattle.bus_visit.specs.Timed.{notice_by, timed_by, forgotten, limit_of, limit_after, moment_after, timed_out}
+use Rattle.bus_visit.specs.Timed.{timed_by, forgotten, limit_of, limit_after, moment_after, timed_out}
 use Rattle.bus_visit.specs.Timed.{SleepsOn, TimedVisit, over, untimed, late, early, left_by, MakesVisit}
 use Rattle.bus_visit.specs.laws.Records.{part-append, unnumbered-waits, unnumbered-notices, waits_in-append}
 use Rattle.bus_visit.specs.laws.Records.{notices_in-append}
@@ -52,14 +51,14 @@ use Rattle.bus_visit.specs.laws.Timers.{inserted-made, rests-timed, rests-forgot
 use Rattle.bus_visit.specs.laws.Timers.{inserted-ticker, inserted-begun, forgotten-same, forgotten-sources, removed-ticker}
 use Rattle.bus_visit.specs.laws.Timers.{removed-made, removed-begun}
 use Rattle.bus_peers.specs.inside.Laws.{ComesTo}
-use Rattle.bus_peers.specs.inside.Shows.{Shows, ShowsAsleep}
+use Rattle.bus_peers.specs.inside.Shows.{Shows}
 use Rattle.bus_peers.specs.inside.Slots.{IsNew, Stands, deadline_after, VisitInRecord}
-use Rattle.bus_peers.proofs.LookPlaces.{look_told, look-fold, look-same, joined-same, shows-same}
+use Rattle.bus_peers.proofs.LookPlaces.{look_told, look-same, joined-same, shows-same}
 use Rattle.bus_peers.proofs.OtherWires.{unvisited}
 use Rattle.bus_peers.proofs.Readings.{reads-late, reads-early, notices-first, unreached}
 use Rattle.bus_peers.proofs.StayShows.{later-over-shows}
 use Rattle.bus_peers.proofs.VisitsInRecord.{WaitsInRecord, waits_so, goes-undialled, opened-ends, opened-waits}
-use Rattle.bus_peers.proofs.VisitsInRecord.{later-ends, later-waits, key-here, moment-here, paused-here, waits-here}
+use Rattle.bus_peers.proofs.VisitsInRecord.{later-ends, later-waits, key-here, moment-here}
 
 -- ---- a session that waits for its wire times out
 

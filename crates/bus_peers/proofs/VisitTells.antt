@@ -1,5 +1,5 @@
 -- What a visit does to the reactor and tells, whatever the record was before it.
-use Rattle.std.proofs.Common.{◌≡◌, ◌≤◌, ◌+◌, ℕ, true, not, List, [], ◌∷◌, ◌++◌, map, Option, Some, None, refl, sym, ◌∙◌}
+use Rattle.std.proofs.Common.{◌≡◌, ◌≤◌, ◌+◌, ℕ, true, not, List, [], ◌∷◌, ◌++◌, Option, Some, None, refl, sym, ◌∙◌}
 use Rattle.std.proofs.Common.{ap, subst, arith}
 use Rattle.react_core.specs.declared.outside.Event.{Event}
 use Rattle.react_core.specs.declared.outside.Event.TheVariants as event
@@ -14,15 +14,14 @@ use Rattle.bus_visit.specs.declared.visiting.Sleeper.{Sleeper}
 use Rattle.bus_visit.specs.declared.timing.Limit.{Limit}
 use Rattle.bus_visit.specs.Dialled.{dials_of, opening}
 use Rattle.bus_visit.specs.First.{FirstVisits, undialled, dialled}
-use Rattle.bus_visit.specs.Noted.{arms_told}
 use Rattle.bus_visit.specs.Shown.{IsBetweenCalls, tags, without_tag}
 use Rattle.bus_visit.specs.laws.Removals.{rests-removed}
 use Rattle.bus_visit.specs.laws.Timers.{rests-timed, rests-forgotten}
 use Rattle.bus_visit.specs.Timed.{forgotten, timed_by, notice_by, timed_out, left_by, SleepsOn, TimedVisit, over, untimed, late}
 use Rattle.bus_visit.specs.Timed.{early, MakesVisit}
-use Rattle.bus_visit.specs.Visited.{RegisteredVisit, MakesRegisteredVisit, tail_of, tags_after}
+use Rattle.bus_visit.specs.Visited.{MakesRegisteredVisit, tail_of, tags_after}
 use Rattle.bus_visit.specs.laws.Dials.{dials-unnumbered}
-use Rattle.bus_visit.specs.laws.Records.{notices_in-append, numbered_in-append, unnumbered-notices, unnumbered-waits}
+use Rattle.bus_visit.specs.laws.Records.{notices_in-append, unnumbered-notices, unnumbered-waits}
 use Rattle.bus_visit.specs.laws.Records.{waits_in-append}
 use Rattle.bus_visit.specs.laws.Tags.{tags-without}
 use Rattle.bus_visit.specs.laws.Timers.{forgotten-same, forgotten-sources, removed-ticker, removed-made, removed-hands}

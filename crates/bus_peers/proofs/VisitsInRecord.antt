@@ -1,8 +1,8 @@
 -- What a visit over the reactor comes to, in the record.
 use Rattle.std.proofs.Common.{◌≡◌, ◌≢◌, ℕ, ◌+◌, ◌<◌, Bool, true, false, not, ◌||◌, nat_lt, if◌then◌else◌, List, []}
-use Rattle.std.proofs.Common.{◌∷◌, ◌++◌, map, length, Option, Some, None, is_some, is_none, refl, sym, ◌∙◌, ap, subst}
+use Rattle.std.proofs.Common.{◌∷◌, ◌++◌, map, length, Option, Some, None, is_some, refl, sym, ◌∙◌, ap, subst}
 use Rattle.bus_session.specs.Counts.{notices_in}
-use Rattle.std.proofs.Common.{inl, arith}
+use Rattle.std.proofs.Common.{arith}
 use Rattle.std.specs.Prelude.{count_by, sum_by}
 use Rattle.std.specs.Option.{option_map, option_and_then}
 use Rattle.std.proofs.lemmas.List.{append-nil}
@@ -37,7 +37,7 @@ use Rattle.bus_record.specs.Pieces as pieces
 use Rattle.bus_record.specs.Pieces.{Pieces, ◌▸◌, visit, is_modify}
 use Rattle.bus_record.specs.Places.{key_of, key_by, key_through, waits, waits_by, waits_through, paused, last_stop, last_stop_by}
 use Rattle.bus_record.specs.Places.{moment, last_reading, last_reading_by, notified, notified_by, notified_through}
-use Rattle.bus_record.specs.Visits.{Here, here, Stage, reading, finished, Visit}
+use Rattle.bus_record.specs.Visits.{Here, here, Stage, finished, Visit}
 use Rattle.bus_record.specs.Settled.{comes_to}
 use Rattle.bus_visit.specs.declared.visiting.Slot.{Slot}
 use Rattle.bus_visit.specs.declared.visiting.Slot.TheVariants as slot

@@ -1,17 +1,17 @@
 -- A round waits up to the nearest deadline of those that sleep.
-use Rattle.std.proofs.Common.{◌≡◌, ◌<◌, ◌≤◌, ◌-◌, ◌+◌, ℕ, Bool, true, false, nat_le, nat_lt, min, if◌then◌else◌, List, []}
-use Rattle.std.proofs.Common.{◌∷◌, ◌++◌, map, Option, Some, None, inl, inr, refl, sym, ◌∙◌, ap, subst, arith}
+use Rattle.std.proofs.Common.{◌≡◌, ◌<◌, ◌-◌, ◌+◌, ℕ, Bool, true, false, nat_le, nat_lt, min, if◌then◌else◌, List, []}
+use Rattle.std.proofs.Common.{◌∷◌, ◌++◌, map, Option, Some, None, inl, inr, refl, sym, ◌∙◌, ap, arith}
 use Rattle.std.specs.Prelude.{filter_map}
 use Rattle.std.specs.List.{cons_option}
-use Rattle.std.proofs.lemmas.Bool.{both_ways, leb-true, leb-false, le-ltb, lt-ltb}
+use Rattle.std.proofs.lemmas.Bool.{both_ways, leb-false, lt-ltb}
 use Rattle.react_timers.specs.declared.timer.LiveTimer.{LiveTimer}
 use Rattle.react_timers.specs.Live.{is_before, placed, due, later, tasks, nearest_moment, earlier}
 use Rattle.react_core.specs.Core.{Core, timers_applied}
-use Rattle.react_core.specs.Timing.{lesser, limit_by, wait_limit}
+use Rattle.react_core.specs.Timing.{limit_by, wait_limit}
 use Rattle.bus_session.specs.declared.session.Session.{Session}
 use Rattle.bus_record.specs.Pieces.{Pieces}
 use Rattle.bus_record.specs.Places.{deadline_at}
-use Rattle.bus_record.specs.Settled.{Numbered, nearer, nearest, distance, timeout_at}
+use Rattle.bus_record.specs.Settled.{nearer, nearest, timeout_at}
 use Rattle.bus_visit.specs.declared.visiting.Slot.{Slot}
 use Rattle.bus_visit.specs.declared.visiting.Slot.TheVariants as slot
 use Rattle.bus_visit.specs.declared.timing.Alarm.{Alarm}

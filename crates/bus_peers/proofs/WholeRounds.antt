@@ -1,7 +1,6 @@
 -- A round as the sources have it is one of the record in pieces.
-use Rattle.std.proofs.Common.{◌≡◌, ◌+◌, ℕ, suc, Bool, true, false, not, ◌==◌, ◌&&◌, ◌||◌, ◌⊎◌, inl, inr}
-use Rattle.std.proofs.Common.{if◌then◌else◌}
-use Rattle.std.proofs.Common.{List, [], ◌∷◌, Option, Some, None, map, refl, sym, ◌∙◌, ap, arith}
+use Rattle.std.proofs.Common.{◌≡◌, ℕ, Bool, true, false, not, ◌&&◌, ◌||◌, ◌⊎◌, inl, inr}
+use Rattle.std.proofs.Common.{List, [], Option, Some, None, map, refl, sym, ◌∙◌, ap, arith}
 use Rattle.std.proofs.lemmas.Bool.{both_ways, and_from, or_left, or_right}
 use Rattle.std.proofs.lemmas.Option.{none-some, same_Some}
 use Rattle.std.specs.Prelude.{is_some, slice_get}
@@ -9,7 +8,7 @@ use Rattle.std.specs.Option.{option_map}
 use Rattle.react_core.specs.declared.outside.Report.{Report}
 use Rattle.react_core.specs.declared.reactor.Dir.{Dir}
 use Rattle.react_core.specs.declared.reactor.Dir.TheVariants.{Read, Write}
-use Rattle.react_core.specs.Round.{reports_of, is_quiet}
+use Rattle.react_core.specs.Round.{reports_of}
 use Rattle.bus_session.specs.declared.session.Session.{Session}
 use Rattle.bus_record.specs.Pieces.{Round, round, Pieces, ◌▸◌}
 use Rattle.bus_record.specs.Places.{key_of, waits, reports, is_early, stays_armed}

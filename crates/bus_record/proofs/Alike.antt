@@ -29,7 +29,7 @@ each-at wire (x ∷ sessions) (y ∷ endeds) pieces each (suc i) s e there here 
     rw at (each-at (wire + 1) sessions endeds pieces each.1 i s e there here)
 
 -- what it comes to by its part of the whole record, and its own moment
-ran-alone : (s : Session) (wire : ℕ) (e : Ended) (events : List Event) → Ran s wire e events → alone s (part wire events) e.moment ≡ Some (outcome e)
+pub ran-alone : (s : Session) (wire : ℕ) (e : Ended) (events : List Event) → Ran s wire e events → alone s (part wire events) e.moment ≡ Some (outcome e)
 ran-alone s wire e events run =
     let ends : IsEnding s (0 + wire) run.pieces e = each-at 0 run.sessions run.endeds run.pieces run.headline.each wire s e run.session run.ending in
     let at : 0 + wire ≡ wire = omega arith in

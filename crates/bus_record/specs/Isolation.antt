@@ -3,6 +3,7 @@ use Rattle.std.specs.Prelude.{◌≡◌, ℕ, List, map, Some, slice_get}
 use Rattle.react_core.specs.declared.outside.Event.{Event}
 use Rattle.bus_session.specs.declared.session.Session.{Session}
 use Rattle.bus_session.specs.declared.ended.Ended.{Ended}
+use Rattle.bus_session.specs.Alone.{alone}
 use Rattle.bus_session.specs.Laws.{on_wire}
 use Rattle.bus_session.specs.Outcomes.{outcome}
 use Rattle.bus_session.specs.Parts.{part}
@@ -18,6 +19,12 @@ pub record Ran (s : Session) (wire : ℕ) (e : Ended) (events : List Event) : Ty
   pub headline : Headline sessions rounds pieces endeds events
   pub session : slice_get sessions wire ≡ Some s
   pub ending : slice_get endeds wire ≡ Some e
+
+-- In a run the session comes to what its own part of the whole record and its own last reading decide alone.
+abbrev pub ComesToItsPart : Session → Type 0
+ComesToItsPart s =
+    (wire : ℕ) (e : Ended) (events : List Event) → Ran s wire e events →
+    alone s (part wire events) e.moment ≡ Some (outcome e)
 
 -- Of two runs in which the session had the same part, but for its wire's number, and the same last reading, it comes to
 -- the same.

@@ -2,7 +2,7 @@
 
 ghost use Rattle.bus_record.specs.Laws.{OneCutting, PartsInPieces, WaitsWhereLeft, WaitsInRecord, WaitsAtPlaces};
 ghost use Rattle.bus_record.specs.Laws.{EachComesToSomething, PausesLittle};
-ghost use Rattle.bus_record.specs.Isolation.{EndsAlike};
+ghost use Rattle.bus_record.specs.Isolation.{ComesToItsPart, EndsAlike};
 ghost use Rattle.bus_record.specs.Rows.{BothOpen, BothPromised, OneWaits, WireComesFirst, LateAtOnce, ReachedInRound};
 ghost use Rattle.bus_record.specs.Rows.{MissedInRound, WrongDirection, EasilyMissed, Servers, FurtherRounds};
 ghost use Rattle.bus_record.specs.FailingRows.{SmallFailures, RefusedFailures};
@@ -47,6 +47,14 @@ pub fn each_session_comes_to_something(sessions: &[Session])
     ensures { EachComesToSomething sessions.now }
 {
     let _count = sessions.len();
+}
+
+/// In a run of any sessions with the headline, a session comes to what its own part of the whole record and its own last
+/// reading decide alone.
+pub fn session_comes_to_its_part(session: &Session)
+    ensures { ComesToItsPart session.now }
+{
+    let _deadline = &session.deadline;
 }
 
 /// What becomes of a session is nobody else's matter: of two runs of any sessions, each with the headline, a session

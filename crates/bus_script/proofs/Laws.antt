@@ -6,7 +6,7 @@ use Rattle.std.specs.Result.{IfOk}
 use Rattle.std.proofs.lemmas.List.Elements.{All-append}
 use Rattle.std.proofs.lemmas.List.Sums.{AllPass-from_list_all}
 use borrow.Author.Tests.{ltb-false}
-use Rattle.bus_script.specs.Words.{◌>>=◌, words_of}
+use Rattle.bus_script.specs.Words.{words_of}
 use Rattle.bus_script.specs.Forms.{line_of}
 use Rattle.bus_script.specs.declared.reading.ScriptForm.{ScriptForm}
 use Rattle.bus_script.specs.declared.reading.ScriptForm.TheVariants as script_forms
@@ -14,7 +14,6 @@ use Rattle.bus_script.specs.Script.{Script, add, read_line, read_lines, at_line,
 use Rattle.bus_script.specs.Reading.{GivesAt}
 use Rattle.bus_script.specs.Laws.{HasForm, NamesItsSessions, IsForward}
 use Rattle.bus_script.specs.declared.reading.ScriptError.{ScriptError}
-use Rattle.bus_script.specs.declared.line.Reason.{Reason}
 use Rattle.bus_script.specs.declared.line.Reason.TheVariants.{Order, Session, Clock, Form}
 use Rattle.bus_script.specs.declared.line.Answer.{Answer}
 use Rattle.bus_script.specs.declared.line.Answer.TheVariants as answers

@@ -1,6 +1,6 @@
 -- The lines of a script that is read, as one list.
 use Rattle.std.specs.Prelude.{◌≡◌, ℕ, true, false, List, [], ◌∷◌, ◌++◌, map, Option, Some, None, Ok, ◌⊎◌}
-use Rattle.bus_script.specs.Words.{◌>>=◌, words_of}
+use Rattle.bus_script.specs.Words.{words_of}
 use Rattle.bus_script.specs.Script.{Script, is_skipped, line_in}
 use Rattle.bus_script.specs.declared.reading.ScriptForm.{ScriptForm}
 use Rattle.bus_script.specs.declared.line.Start.{Start}

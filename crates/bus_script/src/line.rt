@@ -20,8 +20,6 @@ pub enum Reason {
     Text,
     /// The line has none of the forms.
     Form,
-    /// The line has a form that is not built yet.
-    NotBuilt,
     /// The line stands at a wrong place.
     Order,
     /// The answer names a session that is not there.
@@ -42,7 +40,6 @@ impl fmt::Display for Reason {
             Reason::Length => f.write_str("length"),
             Reason::Text => f.write_str("text"),
             Reason::Form => f.write_str("form"),
-            Reason::NotBuilt => f.write_str("not-built"),
             Reason::Order => f.write_str("order"),
             Reason::Session => f.write_str("session"),
             Reason::Clock => f.write_str("clock"),

@@ -39,15 +39,12 @@ const CLIENT: &str = "client EXTERNAL 1000 - n - unix:path=/run/a\n";
 
 #[test]
 fn words_and_scripts_are_refused_with_their_line_and_reason(rt: HostRuntime) -> Result<(), Fail> {
-    let words: [(&[&str], &str); 17] = [
+    let words: [(&[&str], &str); 14] = [
         (&[], "refused 0 words\n"),
         (&["play", "x"], "refused 0 words\n"),
         (&["playing"], "refused 0 words\n"),
         (&["open", "x"], "refused 0 words\n"),
         (&["Open"], "refused 0 words\n"),
-        (&["bulk", "6"], "refused 0 not-built\n"),
-        (&["bulk", "0"], "refused 0 not-built\n"),
-        (&["bulk", "10000"], "refused 0 not-built\n"),
         (&["bulk", "10001"], "refused 0 words\n"),
         (&["bulk", "06"], "refused 0 words\n"),
         (&["bulk", "+6"], "refused 0 words\n"),
@@ -266,6 +263,34 @@ fn played_scripts_print_their_endings_and_events(rt: HostRuntime) -> Result<(), 
         let (sink, answer) = outcome(rt.alloc(), &["play"], script.as_bytes(), &[], 5000)?;
         assert_eq!(rt; sink.bytes(), text.as_bytes(), "{script}");
         assert_eq!(rt; answer, status, "{script}");
+    }
+    Ok(())
+}
+
+#[test]
+fn a_bulk_run_sums_its_sessions_up(rt: HostRuntime) -> Result<(), Fail> {
+    let rows = [
+        (
+            "0",
+            "bulk 0 open 0 connection 0 handshake 0 timed-out 0 written 0\n",
+            0,
+        ),
+        (
+            "6",
+            "bulk 6 open 3 connection 1 handshake 1 timed-out 1 written 157\n",
+            1,
+        ),
+        (
+            "10000",
+            "bulk 10000 open 5001 connection 1667 handshake 1666 timed-out 1666 written 261669\n",
+            1,
+        ),
+        ("10001", "refused 0 words\n", 2),
+    ];
+    for (count, text, wanted) in rows {
+        let (sink, status) = outcome(rt.alloc(), &["bulk", count], b"rounds 5\n", &[], 100)?;
+        assert_eq!(rt; sink.bytes(), text.as_bytes(), "{count}");
+        assert_eq!(rt; status, wanted, "{count}");
     }
     Ok(())
 }

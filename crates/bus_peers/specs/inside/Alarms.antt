@@ -1,7 +1,6 @@
 -- The timers of the sessions that sleep, in the reactor. Moments are nanoseconds.
 use Rattle.std.specs.Prelude.{◌≡◌, ◌≤◌, ◌<◌, ◌⊎◌, ℕ, ◌+◌, true, nat_lt, if◌then◌else◌, List, [], ◌∷◌, ◌++◌}
 use Rattle.std.specs.Prelude.{Option, Some, None}
-use Rattle.std.specs.Option.{option_map}
 use Rattle.react_timers.specs.declared.timer.LiveTimer.{LiveTimer}
 use Rattle.react_core.specs.Core.{Core, timers_applied}
 use Rattle.bus_visit.specs.declared.timing.Alarm.{Alarm}

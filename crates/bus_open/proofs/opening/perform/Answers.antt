@@ -1,4 +1,4 @@
-use Rattle.std.proofs.Common.{◌≡◌, ap, arith, sym, ◌∙◌}
+use Rattle.std.proofs.Common.{ap, arith, sym, ◌∙◌}
 use Rattle.react_core.specs.Core.{ReactorState}
 use Rattle.bus_open.proofs.Cuts.{keeps_same}
 use Rattle.bus_open.proofs.OverReal.{among, opens_to, opening_fails, two_of}

@@ -6,7 +6,7 @@ use Rattle.bus_open.proofs.playing.perform.Goals as goal
 
 pub returns-in-Ok-opened-clause-opened : goal.returns-in-Ok-opened-clause-opened
 returns-in-Ok-opened-clause-opened g c = λ zero.
-    let all = rw c.as_slice.ensures.value at (c.report.ensures.all_open zero) in (
+    let all = rw c.as_slice.ensures.value at (c.write_report.ensures.all_open zero) in (
       c.in-Ok-opened.endeds.items,
       c.events-events.result.now,
       comes c.args.played.scene.script c.args.played.sessions.items c.args.played.rounds _ _ c.in-Ok-opened.endeds.items _ _ c.events-events.result.now
@@ -14,14 +14,14 @@ returns-in-Ok-opened-clause-opened g c = λ zero.
           (follows-answers c.args.played.scene.script _ c.args.played.scene.rooms _ _ _ c.events-events.result.now c.open_all-opened.ensures.keeps.origin
           c.events-events.ensures.told c.requires.unwaited (ap (λ (r : ReactorState). r.events) c.in-Ok.ensures)
           c.open_all-opened.ensures.keeps.rooms c.events-events.ensures.follows) c.in-Ok-opened.ensures.cause
-          c.in-Ok-opened.ensures.opened (rw c.as_slice.ensures.value at c.report.ensures.named),
+          c.in-Ok-opened.ensures.opened (rw c.as_slice.ensures.value at c.write_report.ensures.named),
       all.0,
       all.1,
     )
 
 pub returns-in-Ok-opened-clause-other : goal.returns-in-Ok-opened-clause-other
 returns-in-Ok-opened-clause-other g c = λ one.
-    let other = rw c.as_slice.ensures.value at (c.report.ensures.other one) in (
+    let other = rw c.as_slice.ensures.value at (c.write_report.ensures.other one) in (
       c.in-Ok-opened.endeds.items,
       c.events-events.result.now,
       comes c.args.played.scene.script c.args.played.sessions.items c.args.played.rounds _ _ c.in-Ok-opened.endeds.items _ _ c.events-events.result.now
@@ -29,14 +29,14 @@ returns-in-Ok-opened-clause-other g c = λ one.
           (follows-answers c.args.played.scene.script _ c.args.played.scene.rooms _ _ _ c.events-events.result.now c.open_all-opened.ensures.keeps.origin
           c.events-events.ensures.told c.requires.unwaited (ap (λ (r : ReactorState). r.events) c.in-Ok.ensures)
           c.open_all-opened.ensures.keeps.rooms c.events-events.ensures.follows) c.in-Ok-opened.ensures.cause
-          c.in-Ok-opened.ensures.opened (rw c.as_slice.ensures.value at c.report.ensures.named),
+          c.in-Ok-opened.ensures.opened (rw c.as_slice.ensures.value at c.write_report.ensures.named),
       other.0,
       other.1,
     )
 
 pub returns-in-Ok-opened-clause-failed : goal.returns-in-Ok-opened-clause-failed
 returns-in-Ok-opened-clause-failed g c = λ four.
-    let failed = rw c.as_slice.ensures.value at (c.report.ensures.failed four) in (
+    let failed = rw c.as_slice.ensures.value at (c.write_report.ensures.failed four) in (
       c.in-Ok-opened.endeds.items,
       c.events-events.result.now,
       comes c.args.played.scene.script c.args.played.sessions.items c.args.played.rounds _ _ c.in-Ok-opened.endeds.items _ _ c.events-events.result.now
@@ -44,7 +44,7 @@ returns-in-Ok-opened-clause-failed g c = λ four.
           (follows-answers c.args.played.scene.script _ c.args.played.scene.rooms _ _ _ c.events-events.result.now c.open_all-opened.ensures.keeps.origin
           c.events-events.ensures.told c.requires.unwaited (ap (λ (r : ReactorState). r.events) c.in-Ok.ensures)
           c.open_all-opened.ensures.keeps.rooms c.events-events.ensures.follows) c.in-Ok-opened.ensures.cause
-          c.in-Ok-opened.ensures.opened (rw c.as_slice.ensures.value at c.report.ensures.named),
+          c.in-Ok-opened.ensures.opened (rw c.as_slice.ensures.value at c.write_report.ensures.named),
       failed.0,
       failed.1,
     )

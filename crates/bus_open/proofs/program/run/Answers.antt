@@ -3,12 +3,13 @@ use Rattle.std.specs.String.{string_bytes}
 use Rattle.bus_script.specs.Printed.{printed, session_lines}
 use Rattle.bus_script.specs.declared.reading.ScriptForm.TheVariants as forms
 use Rattle.bus_open.specs.Commands.{asked}
-use Rattle.bus_open.specs.Run.{all_open, played, opened, checked}
-use Rattle.bus_open.specs.declared.command.Command.TheVariants.{Play, Open, Check}
+use Rattle.bus_open.specs.Run.{all_open, played, opened, bulked, checked}
+use Rattle.bus_open.specs.declared.command.Command.TheVariants.{Play, Open, Bulk, Check}
+use Rattle.bus_bulk.specs.Summary.{summary_text}
 use Rattle.bus_script.specs.Script.{script}
 use Rattle.bus_script.specs.declared.reading.ScriptForm.{ScriptForm}
 use Rattle.bus_open.proofs.Cuts.{keeps_same}
-use Rattle.bus_open.proofs.Forms.{form_of_play, form_of_open, no_form_checks}
+use Rattle.bus_open.proofs.Forms.{form_of_play, form_of_open, no_form_checks, no_form_is_bulk}
 use Rattle.bus_open.proofs.program.run.Goals as goal
 
 pub returns-in-Ok-Play-clause-well : goal.returns-in-Ok-Play-clause-well
@@ -151,3 +152,47 @@ pub returns-in-Ok-Check-clause-refused_script : goal.returns-in-Ok-Check-clause-
 returns-in-Ok-Check-clause-refused_script g c = λ form text refused is holds bad.
     let is_asked : asked (map string_bytes c.args.words.now) ≡ Ok (Check c.in-Ok-Check.kind) = sym c.asked.ensures.answer ∙ (c.in-Ok-Check.is ∙ ap Ok c.in-Ok-Check.field-0-is) in
     absurd (no_form_checks form c.in-Ok-Check.kind (sym is ∙ is_asked))
+
+pub returns-in-Ok-Bulk-clause-well : goal.returns-in-Ok-Bulk-clause-well
+returns-in-Ok-Bulk-clause-well g c = λ zero.
+    let sessions = c.in-Ok-Bulk.sessions in
+    let is_asked : asked (map string_bytes c.args.words.now) ≡ Ok (Bulk sessions) =
+    sym c.asked.ensures.answer ∙ (c.in-Ok-Bulk.is ∙ ap Ok c.in-Ok-Bulk.field-0-is) in
+    let came = c.run_bulk.ensures.opened zero in (
+      summary_text sessions came.0,
+      bulked sessions came.0 came.1 true (summary_text sessions came.0) is_asked
+          (keeps_same (g.S.Source.left c.args.source.now)) came.2 (sym came.3) refl,
+      came.4,
+    )
+
+pub returns-in-Ok-Bulk-clause-other : goal.returns-in-Ok-Bulk-clause-other
+returns-in-Ok-Bulk-clause-other g c = λ one.
+    let sessions = c.in-Ok-Bulk.sessions in
+    let is_asked : asked (map string_bytes c.args.words.now) ≡ Ok (Bulk sessions) =
+    sym c.asked.ensures.answer ∙ (c.in-Ok-Bulk.is ∙ ap Ok c.in-Ok-Bulk.field-0-is) in
+    let came = c.run_bulk.ensures.other one in (
+      summary_text sessions came.0,
+      bulked sessions came.0 came.1 false (summary_text sessions came.0) is_asked
+          (keeps_same (g.S.Source.left c.args.source.now)) came.2 (sym came.3) refl,
+      came.4,
+    )
+
+pub returns-in-Ok-Bulk-clause-write_fault : goal.returns-in-Ok-Bulk-clause-write_fault
+returns-in-Ok-Bulk-clause-write_fault g c = λ four.
+    let sessions = c.in-Ok-Bulk.sessions in
+    let is_asked : asked (map string_bytes c.args.words.now) ≡ Ok (Bulk sessions) =
+    sym c.asked.ensures.answer ∙ (c.in-Ok-Bulk.is ∙ ap Ok c.in-Ok-Bulk.field-0-is) in
+    let came = c.run_bulk.ensures.failed four in (
+      all_open came.0,
+      summary_text sessions came.0,
+      bulked sessions came.0 came.1 (all_open came.0) (summary_text sessions came.0) is_asked
+          (keeps_same (g.S.Source.left c.args.source.now)) came.2 refl refl,
+      came.3,
+      came.4,
+    )
+
+pub returns-in-Ok-Bulk-clause-refused_script : goal.returns-in-Ok-Bulk-clause-refused_script
+returns-in-Ok-Bulk-clause-refused_script g c = λ form text refused is holds bad.
+    let is_asked : asked (map string_bytes c.args.words.now) ≡ Ok (Bulk c.in-Ok-Bulk.sessions) =
+    sym c.asked.ensures.answer ∙ (c.in-Ok-Bulk.is ∙ ap Ok c.in-Ok-Bulk.field-0-is) in
+    absurd (no_form_is_bulk form c.in-Ok-Bulk.sessions (sym is ∙ is_asked))

@@ -1,0 +1,4 @@
+pub mod Kinds
+pub mod Replies
+pub mod Bulk
+pub mod Summary
