@@ -5,5 +5,6 @@ mod Found
 mod Places
 mod Ends
 mod Courses
+mod Calls
 mod Parts
 mod RowProofs

@@ -1,6 +1,7 @@
 //! The laws. A function does nothing: its contract is the law.
 
 ghost use Rattle.bus_cutting.specs.Laws.{CuttingIsNoMatter, CuttingIsNoMatterInRuns, EndsAlike};
+ghost use Rattle.bus_cutting.specs.Calls.{CallsLittle};
 ghost use Rattle.bus_cutting.specs.Rows.{WholeRows, CutRows};
 
 use bus_record::session_comes_to_its_part;
@@ -27,6 +28,15 @@ pub fn cutting_does_not_matter_in_runs(session: &Session)
 {
     cutting_does_not_matter(session);
     session_comes_to_its_part(session);
+}
+
+/// A conversation asks its wire only so often: each call moves a byte, pauses it or ends it; a read is asked for only
+/// while less came than 64 lines may have, of 16384 bytes each before the line feed; and there were no more calls than
+/// bytes moved and calls paused.
+pub fn calls_are_few(session: &Session)
+    ensures { CallsLittle session.now }
+{
+    let _deadline = &session.deadline;
 }
 
 /// What comes of some small conversations, and one that is cut in two ways.

@@ -8,6 +8,6 @@
 mod laws;
 
 pub use laws::{
-    cutting_does_not_matter, cutting_does_not_matter_in_runs, same_bytes_end_alike,
+    calls_are_few, cutting_does_not_matter, cutting_does_not_matter_in_runs, same_bytes_end_alike,
     small_conversations,
 };
