@@ -2,6 +2,7 @@
 
 mod deadlines;
 mod dialling;
+mod failing;
 mod hostile;
 mod opening;
 mod program;

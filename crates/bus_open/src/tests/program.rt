@@ -15,7 +15,7 @@ pub(crate) fn texts(alloc: Global, list: &[&str]) -> Result<Vec<String>, Fail> {
 }
 
 /// An outside that none of these commands uses.
-fn unused(alloc: Global) -> Result<Scene, Fail> {
+pub(crate) fn unused(alloc: Global) -> Result<Scene, Fail> {
     Ok(Scene::from_script(alloc, b"rounds 0", ScriptForm::Play)?.scene)
 }
 
@@ -79,7 +79,7 @@ const AUTH: &str = "00415554482045585445524e414c2033313330333033300d0a";
 
 const OK: &str = "4f4b2031323334646561646265656631323334646561646265656631323334353637380d0a";
 
-const TWO_CLIENTS: &str = "rounds 5
+pub(crate) const TWO_CLIENTS: &str = "rounds 5
 client EXTERNAL 1000 - n - unix:path=/run/a
 client EXTERNAL 1000 - n - unix:path=/run/b
 dial 0 open n
@@ -88,7 +88,7 @@ recv 0 bytes 4f4b203132333464656164626565663132333464656164626565663132333435363
 recv 1 bytes 4f4b2031323334646561646265656631323334646561646265656631323334353637380d0a
 ";
 
-const TWO_OPEN: &str =
+pub(crate) const TWO_OPEN: &str =
     "session 0 open:1234deadbeef1234deadbeef12345678:n 00415554482045585445524e414c2033313330333033300d0a424547494e0d0a . -
 session 1 open:1234deadbeef1234deadbeef12345678:n 00415554482045585445524e414c2033313330333033300d0a424547494e0d0a . -
 dial 0 unix 2f72756e2f61 = open n
