@@ -147,6 +147,7 @@ impl Model for Reactor {
 }
 
 impl Reactor {
+    ghost use Rattle.std.specs.Prelude.{◌+◌, ◌*◌, length};
     ghost use Rattle.react_core.specs.Core.{new_core, IsIdle, HasSource};
 
     /// An idle reactor whose waits take at most `events` reports. Both counters are 0.
@@ -214,6 +215,15 @@ impl Reactor {
         ensures { result ≡ self.now.core.made }
     {
         self.made
+    }
+
+    /// How many entries the heap of timers has, those of removed timers too: never more than two for each live timer,
+    /// and 1000. The live timers are those of the operations that were applied.
+    pub fn timer_entries(&self) -> usize
+        ensures least { length self.now.core.timers ≤ result }
+        ensures bound { result ≤ 2 * length self.now.core.timers + 1000 }
+    {
+        self.timers.entries()
     }
 
     /// How many polled interests were begun, each first time and each time anew. It stays at `u64::MAX`.

@@ -372,6 +372,24 @@ fn more_timers_than_a_queue_holds_are_woken_in_order(rt: HostRuntime) -> Result<
 }
 
 #[test]
+fn removed_timers_leave_few_entries(rt: HostRuntime) -> Result<(), Fail> {
+    let alloc = rt.alloc();
+    let mut rig = Rig::new(alloc, 0)?;
+    for pair in 0..100_000u64 {
+        let (reactor, outside) = (&mut rig.reactor, &mut rig.outside);
+        let number = reactor.insert_timer(alloc, outside, 1_000_000, 7)?;
+        reactor.remove_timer(alloc, 1_000_000, number)?;
+        if pair % 500 == 499 {
+            assert_eq!(rt; rig.round(0), Some(None));
+            assert!(rt; rig.reactor.timer_entries() <= 1000);
+        }
+    }
+    assert_eq!(rt; rig.counts(), (100_000, 0, 0));
+    assert!(rt; rig.reactor.is_idle());
+    Ok(())
+}
+
+#[test]
 fn a_sum_past_the_end_sets_no_moment(rt: HostRuntime) -> Result<(), Fail> {
     let end = u64::MAX;
     let steps = [

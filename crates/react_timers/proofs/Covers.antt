@@ -17,13 +17,13 @@ use Rattle.react_timers.specs.Live.{added, is_at, without, task_at, is_before, I
 use Rattle.react_timers.specs.Live.{applied, applied_all, insertions, insertions_of}
 use Rattle.react_timers.proofs.Dues.{each-filter, each-added, rises-filter, rises-added}
 
-contains_head : (e : Entry) (xs : List Entry) → Contains (e ∷ xs) e
+pub contains_head : (e : Entry) (xs : List Entry) → Contains (e ∷ xs) e
 contains_head e xs = (0, omega arith, refl)
 
-contains_later : (x e : Entry) (xs : List Entry) → Contains xs e → Contains (x ∷ xs) e
+pub contains_later : (x e : Entry) (xs : List Entry) → Contains xs e → Contains (x ∷ xs) e
 contains_later x e xs h = (suc h.0, omega arith, h.2)
 
-contains_cases : (x e : Entry) (xs : List Entry) (k : ℕ) → k < length (x ∷ xs) → get_or (x ∷ xs) k e ≡ e →
+pub contains_cases : (x e : Entry) (xs : List Entry) (k : ℕ) → k < length (x ∷ xs) → get_or (x ∷ xs) k e ≡ e →
     (x ≡ e) ⊎ Contains xs e
 contains_cases x e xs zero lt is = inl is
 contains_cases x e xs (suc k) lt is = inr (k, omega arith, is)
@@ -218,3 +218,13 @@ rebuilt-length live items p = length_permutation (map entry_of live) items p ∙
     same : (live : List LiveTimer) → length (map entry_of live) ≡ length live
     same [] = refl
     same (t ∷ ts) = ap suc (same ts)
+
+-- there are no more insertions than operations
+pub few-insertions : (ops : List TimerOp) → insertions ops ≤ length ops
+few-insertions [] = omega arith
+few-insertions (Insert when number task ∷ ops) = let rest = few-insertions ops in omega (arith, rest)
+few-insertions (Remove when number ∷ ops) = let rest = few-insertions ops in omega (arith, rest)
+
+pub one-insertion : (op : TimerOp) → insertions_of op ≤ 1
+one-insertion (Insert when number task) = omega arith
+one-insertion (Remove when number) = omega arith

@@ -1,9 +1,9 @@
 -- The moment of one number through operations, and whether any number has one after them.
-use Rattle.std.proofs.Common.{◌≡◌, ℕ, ◌+◌, ◌<◌, ◌≤◌, Bool, true, false, not, List, [], ◌∷◌, Option, Some, None, length}
+use Rattle.std.proofs.Common.{◌≡◌, ℕ, ◌+◌, ◌<◌, ◌≤◌, Bool, true, false, not, List, [], ◌∷◌, Option, None, length}
 use Rattle.std.proofs.Common.{get_or, drop, refl, ap, sym, ◌∙◌, inl, inr, arith, add-one, drop-cons}
 use Rattle.std.specs.Prelude.{nat_lt, ◌==◌, if◌then◌else◌, is_some}
 use Rattle.std.specs.List.{AllByRecursion, list_any}
-use Rattle.std.proofs.lemmas.Bool.{cases_Bool, cases_eq, and_parts, cases_lt, lt-ltb, le-ltb, eq-eqb, eqb-true, ne_eqb}
+use Rattle.std.proofs.lemmas.Bool.{cases_Bool, cases_eq, and_parts, eq-eqb, eqb-true, ne_eqb}
 use Rattle.std.proofs.lemmas.Bool.{ltb-false, or_parts}
 use Rattle.std.proofs.lemmas.List.{drop_all}
 use Rattle.std.proofs.lemmas.List.Folds.{list_any_none}
@@ -11,61 +11,16 @@ use Rattle.react_timers.specs.declared.timer.LiveTimer.{LiveTimer}
 use Rattle.react_timers.specs.declared.timer.TimerOp.{TimerOp}
 use Rattle.react_timers.specs.declared.timer.TimerOp.TheVariants.{Insert, Remove}
 use Rattle.react_timers.specs.Live.{Rises, added, is_at, without, applied, applied_all}
-use Rattle.react_timers.specs.Places.{place}
 use Rattle.react_timers.specs.Moments.{moment_of, inserted, removed, moment_after, moment_after_all, stays}
 use Rattle.react_timers.specs.Moments.{insertion_passes}
 use Rattle.react_timers.proofs.Lists.{above, absent}
 use Rattle.react_timers.proofs.Dues.{each-filter, each-added, rises-applied}
 
-moment_below : (n : ℕ) (xs : List LiveTimer) → AllByRecursion (λ y. n < y.number) xs → moment_of n xs ≡ None
+pub moment_below : (n : ℕ) (xs : List LiveTimer) → AllByRecursion (λ y. n < y.number) xs → moment_of n xs ≡ None
 moment_below n [] h = refl
 moment_below n (x ∷ xs) h =
     let other : (x.number == n) ≡ false = ne_eqb x.number n (λ e. omega (arith, e, h.0)) in
     rw other (moment_below n xs h.1)
-
--- the timer at the number's place has the number
-moment_there : (n : ℕ) (xs : List LiveTimer) (d : LiveTimer) → place n xs < length xs →
-    (get_or xs (place n xs) d).number ≡ n → moment_of n xs ≡ Some (get_or xs (place n xs) d).when
-moment_there n [] d lt is = absurd (omega arith)
-moment_there n (x ∷ xs) d lt is = elim (cases_lt x.number n) [
-  | inl low ↦
-      let t : nat_lt x.number n ≡ true = lt-ltb x.number n low in
-      let other : (x.number == n) ≡ false = ne_eqb x.number n (λ e. omega (arith, e, low)) in
-      let l = rw t at lt in
-      rw (t, other) (moment_there n xs d (omega (arith, l)) (rw t at is))
-  | inr high ↦
-      let t : nat_lt x.number n ≡ false = le-ltb x.number n high in
-      let same : (x.number == n) ≡ true = eq-eqb x.number n (rw t at is) in
-      rw (t, same) refl
-]
-
--- it has another number, or none stands there
-moment_nowhere : (n : ℕ) (xs : List LiveTimer) (d : LiveTimer) → Rises xs →
-    (place n xs < length xs → (get_or xs (place n xs) d).number ≡ n → ⊥) → moment_of n xs ≡ None
-moment_nowhere n [] d r not-there = refl
-moment_nowhere n (x ∷ xs) d r not-there = elim (cases_lt x.number n) [
-  | inl low ↦
-      let t : nat_lt x.number n ≡ true = lt-ltb x.number n low in
-      let other : (x.number == n) ≡ false = ne_eqb x.number n (λ e. omega (arith, e, low)) in
-      let not-there' = rw t at not-there in
-      rw other (moment_nowhere n xs d r.1 (λ lt is. not-there' (omega (arith, lt)) is))
-  | inr high ↦
-      let t : nat_lt x.number n ≡ false = le-ltb x.number n high in
-      let not-there' = rw t at not-there in
-      let unlike : x.number ≡ n → ⊥ = λ e. not-there' (omega arith) e in
-      let other : (x.number == n) ≡ false = ne_eqb x.number n unlike in
-      rw other (moment_below n xs (above n x.number xs high r.0))
-]
-
-pub moment-there : (n : ℕ) (xs : List LiveTimer) (at : ℕ) (d : LiveTimer) → at ≡ place n xs → at < length xs →
-    (get_or xs at d).number ≡ n → moment_of n xs ≡ Some (get_or xs at d).when
-moment-there n xs at d p lt is =
-    moment_there n xs d (omega (arith, p, lt)) (ap (λ k. (get_or xs k d).number) (sym p) ∙ is) ∙ ap (λ k. Some (get_or xs k d).when) (sym p)
-
-pub moment-nowhere : (n : ℕ) (xs : List LiveTimer) (at : ℕ) (d : LiveTimer) → Rises xs → at ≡ place n xs →
-    (at < length xs → (get_or xs at d).number ≡ n → ⊥) → moment_of n xs ≡ None
-moment-nowhere n xs at d r p not-there =
-    moment_nowhere n xs d r (λ lt is. not-there (omega (arith, p, lt)) (ap (λ k. (get_or xs k d).number) p ∙ is))
 
 moment_added : (n : ℕ) (t : LiveTimer) (xs : List LiveTimer) → Rises xs →
     moment_of n (added t xs) ≡ (if t.number == n then inserted t.when (moment_of n xs) else moment_of n xs)

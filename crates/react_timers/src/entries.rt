@@ -3,10 +3,11 @@ ghost use Rattle.std.specs.Prelude.{◌≡◌, ◌+◌, ◌≤◌, ◌<◌, ◌�
 ghost use Rattle.std.specs.Prelude.{IfNone, IsPermutation};
 ghost use Rattle.react_timers.specs.Heaped.{IsSoonest, NoneDue, Pops, PopsDue};
 ghost use Rattle.react_timers.specs.Held.{entry_of};
+ghost use Rattle.react_timers.specs.Slots.{lives};
 
 use crate::entry::Entry;
 use crate::sift::{order, rise, sink};
-use crate::timer::LiveTimer;
+use crate::slot::Slot;
 use std::alloc::{AllocError, Global};
 use std::marker::Model;
 
@@ -77,12 +78,12 @@ impl Entries {
     }
 
     /// One entry for each timer, in linear time and in place.
-    pub(crate) fn rebuild(&mut self, live: &[LiveTimer])
-        requires { length live.now ≤ self.old.places }
-        ensures items { IsPermutation (map entry_of live.now) self.new.items }
+    pub(crate) fn rebuild(&mut self, slots: &[Slot])
+        requires { length (lives slots.now) ≤ self.old.places }
+        ensures items { IsPermutation (map entry_of (lives slots.now)) self.new.items }
         ensures places { self.new.places ≡ self.old.places }
     {
-        fill(&mut self.items, live);
+        fill(&mut self.items, slots);
         order(&mut self.items);
     }
 
@@ -122,17 +123,19 @@ impl Entries {
     }
 }
 
-/// The entries of the timers, in the order of the timers.
-fn fill(items: &mut Vec<Entry>, live: &[LiveTimer])
-    requires { length live.now ≤ vec_capacity items.old }
-    ensures items { items.new.items ≡ map entry_of live.now }
+/// The entries of the live timers, in the order of the timers.
+fn fill(items: &mut Vec<Entry>, slots: &[Slot])
+    requires { length (lives slots.now) ≤ vec_capacity items.old }
+    ensures items { items.new.items ≡ map entry_of (lives slots.now) }
     ensures capacity { vec_capacity items.new ≡ vec_capacity items.old }
 {
     items.clear();
-    for timer in live {
-        items.push_reserved(Entry {
-            when: timer.when,
-            number: timer.number,
-        });
+    for slot in slots {
+        if slot.is_live {
+            items.push_reserved(Entry {
+                when: slot.timer.when,
+                number: slot.timer.number,
+            });
+        }
     }
 }

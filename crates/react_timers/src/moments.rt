@@ -4,8 +4,8 @@ ghost use Rattle.std.specs.List.{list_any};
 ghost use Rattle.react_timers.specs.Live.{Rises, applied_all};
 ghost use Rattle.react_timers.specs.Moments.{moment_of, moment_after, stays, insertion_passes};
 
-use crate::live::moment_of;
-use crate::timer::{LiveTimer, TimerOp};
+use crate::live::Live;
+use crate::timer::TimerOp;
 
 /// The number's moment after the operation, by its moment before.
 fn moment_after(number: u64, moment: Option<u64>, op: TimerOp) -> Option<u64>
@@ -26,11 +26,11 @@ fn moment_after(number: u64, moment: Option<u64>, op: TimerOp) -> Option<u64>
 }
 
 /// Whether the number has a timer after the queue.
-fn stays(live: &[LiveTimer], queue: &[TimerOp], number: u64) -> bool
-    requires { Rises live.now }
-    ensures { result ≡ stays live.now queue.now number }
+fn stays(live: &Live, queue: &[TimerOp], number: u64) -> bool
+    requires { Rises live.now.items }
+    ensures { result ≡ stays live.now.items queue.now number }
 {
-    let mut moment = moment_of(live, number);
+    let mut moment = live.moment_of(number);
     for op in queue {
         moment = moment_after(number, moment, *op);
     }
@@ -38,12 +38,12 @@ fn stays(live: &[LiveTimer], queue: &[TimerOp], number: u64) -> bool
 }
 
 /// Whether the number of a live timer has one after the queue.
-fn any_stays(live: &[LiveTimer], queue: &[TimerOp]) -> bool
-    requires { Rises live.now }
-    ensures { result ≡ list_any (λ t. stays live.now queue.now t.number) live.now }
+fn any_stays(live: &Live, queue: &[TimerOp]) -> bool
+    requires { Rises live.now.items }
+    ensures { result ≡ list_any (λ t. stays live.now.items queue.now t.number) live.now.items }
 {
-    for timer in live {
-        if stays(live, queue, timer.number) {
+    for slot in live.slots() {
+        if slot.is_live && stays(live, queue, slot.timer.number) {
             return true;
         }
     }
@@ -51,9 +51,9 @@ fn any_stays(live: &[LiveTimer], queue: &[TimerOp]) -> bool
 }
 
 /// Whether the number of a queued insertion has a timer after the queue.
-fn any_insertion_stays(live: &[LiveTimer], queue: &[TimerOp]) -> bool
-    requires { Rises live.now }
-    ensures { result ≡ list_any (insertion_passes (stays live.now queue.now)) queue.now }
+fn any_insertion_stays(live: &Live, queue: &[TimerOp]) -> bool
+    requires { Rises live.now.items }
+    ensures { result ≡ list_any (insertion_passes (stays live.now.items queue.now)) queue.now }
 {
     for op in queue {
         if let TimerOp::Insert { number, .. } = op {
@@ -67,9 +67,9 @@ fn any_insertion_stays(live: &[LiveTimer], queue: &[TimerOp]) -> bool
 
 /// Whether no timer is left after the queue. At most as many live timers are looked up as the queue has removals, and
 /// one more.
-pub(crate) fn is_empty_after(live: &[LiveTimer], queue: &[TimerOp]) -> bool
-    requires { Rises live.now }
-    ensures { IsTrue result ↔ (applied_all live.now queue.now ≡ []) }
+pub(crate) fn is_empty_after(live: &Live, queue: &[TimerOp]) -> bool
+    requires { Rises live.now.items }
+    ensures { IsTrue result ↔ (applied_all live.now.items queue.now ≡ []) }
 {
     !any_stays(live, queue) && !any_insertion_stays(live, queue)
 }

@@ -5,7 +5,8 @@ ghost use Rattle.react_timers.specs.Live.{Rises, applied, applied_all, due, late
 ghost use Rattle.react_timers.specs.Live.{nearest_moment, IsNearest};
 
 use crate::entries::Entries;
-use crate::timer::{LiveTimer, TimerOp};
+use crate::live::Live;
+use crate::timer::TimerOp;
 use crate::{held, moments};
 use std::alloc::{AllocError, Global};
 use std::marker::Model;
@@ -17,14 +18,14 @@ pub const QUEUE: usize = 1000;
 #[derive(Drop)]
 pub struct Timers {
     entries: Entries,
-    live: Vec<LiveTimer>,
+    live: Live,
     queue: Vec<TimerOp>,
     /// How many operations of the queue are insertions.
     awaited: usize,
 }
 
 impl Model for Timers {
-    ghost use Rattle.std.specs.Prelude.{◌≡◌, ◌+◌, ◌≤◌, length, vec_len, vec_capacity};
+    ghost use Rattle.std.specs.Prelude.{◌≡◌, ◌+◌, ◌*◌, ◌≤◌, length, vec_len, vec_capacity};
     ghost use Rattle.react_timers.specs.Timetable.{Timetable, room_in};
     ghost use Rattle.react_timers.specs.Held.{Held};
     ghost use Rattle.react_timers.specs.Live.{insertions};
@@ -35,16 +36,17 @@ impl Model for Timers {
       live = t.live.items;
       queue = t.queue.items;
       entries = length t.entries.items;
-      room = room_in t.entries.places (length t.entries.items) (vec_capacity t.live) (vec_len t.live)
+      room = room_in t.entries.places (length t.entries.items) t.live.places t.live.used
           (insertions t.queue.items);
     } };
 
     ghost invariant = { λ t. record {
       held : Held t.entries.items t.live.items;
       entry_room : length t.entries.items + insertions t.queue.items ≤ t.entries.places;
-      live_room : vec_len t.live + insertions t.queue.items ≤ vec_capacity t.live;
+      live_room : t.live.used + insertions t.queue.items ≤ t.live.places;
       queue_room : 1000 ≤ vec_capacity t.queue;
       awaited : t.awaited ≡ insertions t.queue.items;
+      few : length t.entries.items ≤ 2 * length t.live.items + 1000;
     } };
 }
 
@@ -55,7 +57,7 @@ impl Timers {
     {
         Ok(Timers {
             entries: Entries::new(alloc),
-            live: Vec::new(alloc),
+            live: Live::new(alloc),
             queue: Vec::with_capacity(alloc, QUEUE)?,
             awaited: 0,
         })
@@ -73,7 +75,7 @@ impl Timers {
         ensures { result ≡ nat_lt 0 self.now.room }
     {
         self.awaited < self.entries.capacity() - self.entries.len()
-            && self.awaited < self.live.capacity() - self.live.len()
+            && self.awaited < self.live.capacity() - self.live.used()
     }
 
     /// How many operations of the queue are insertions.
@@ -90,9 +92,11 @@ impl Timers {
         moments::is_empty_after(&self.live, &self.queue)
     }
 
-    /// How many entries the heap has, stale ones too.
+    /// How many entries the heap has, stale ones too. They are never more than two for each live timer, and 1000.
     pub fn entries(&self) -> usize
-        ensures { result ≡ self.now.entries }
+        ensures count { result ≡ self.now.entries }
+        ensures least { length self.now.live ≤ result }
+        ensures bound { result ≤ 2 * length self.now.live + 1000 }
     {
         self.entries.len()
     }
@@ -162,7 +166,7 @@ impl Timers {
         held::apply_all(&mut self.entries, &mut self.live, &self.queue);
         self.queue.clear();
         self.awaited = 0;
-        held::trim(&mut self.entries, &self.live);
+        held::trim(&mut self.entries, &mut self.live);
     }
 
     /// Applies one operation past the queue, without memory. The queue stays.
@@ -175,7 +179,7 @@ impl Timers {
         ensures room { self.old.room ≤ self.new.room + insertions_of op }
     {
         held::apply_op(&mut self.entries, &mut self.live, op);
-        held::trim(&mut self.entries, &self.live);
+        held::trim(&mut self.entries, &mut self.live);
     }
 
     /// Moves the tasks of the timers with a moment of at most `now` nanoseconds behind those in the hands, in the order
@@ -191,6 +195,7 @@ impl Timers {
         ensures room { self.old.room ≤ self.new.room }
     {
         held::take_due(&mut self.entries, &mut self.live, now, hands);
+        held::trim(&mut self.entries, &mut self.live);
     }
 
     /// The least moment of a live timer, in nanoseconds. Stale entries on the way are dropped, timers and queue stay.

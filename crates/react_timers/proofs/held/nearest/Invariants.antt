@@ -4,7 +4,7 @@ use Rattle.react_timers.proofs.held.nearest.Given as goal
 
 abbrev pub invariant-loop-entry : goal.invariant-loop-entry
 invariant-loop-entry l = record {
-  held : Held l.entries.items l.live;
+  held : Held l.entries.items l.live.items;
   fewer : length l.entries.items ≤ length l.fn.entries.items;
   places : l.fn.entries.places ≡ l.entries.places;
 }

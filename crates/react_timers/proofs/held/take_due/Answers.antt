@@ -24,14 +24,15 @@ loop-entry-preserved-in-Some-take_out c =
     let first = due-first c.args.now xs t before.held.rises is popped.0 (none-before t c.loop-entry.entries.items xs popped.1.1 before.held.covered) in
     let long = length_permutation _ _ popped.1.0 in
     record {
-      hands = rw (c.push_reserved.ensures.items, c.take_out.ensures.live)
+      hands = rw (c.push_reserved.ensures.items, c.take_out.ensures.items)
           (append_assoc c.loop-entry.hands.items (t.task ∷ []) _ ∙ ap (λ (ds : List LiveTimer). c.loop-entry.hands.items ++ tasks ds) (sym first) ∙ before.hands);
-      live = rw c.take_out.ensures.live (later-first c.args.now e.when e.number xs popped.0 ∙ before.live);
-      held = rw c.take_out.ensures.live (held-pop _ _ e xs before.held popped.1.0);
+      live = rw c.take_out.ensures.items (later-first c.args.now e.when e.number xs popped.0 ∙ before.live);
+      held = rw c.take_out.ensures.items (held-pop _ _ e xs before.held popped.1.0);
       fewer = omega (arith, long, before.fewer);
       len = grind (arith, common_steps);
       places = before.places ∙ sym c.pop_due.ensures.places;
-      capacity = c.take_out.ensures.capacity ∙ before.capacity;
+      used = omega (arith, c.take_out.ensures.used, before.used);
+      live_places = c.take_out.ensures.places ∙ before.live_places;
       hands_len = grind (arith, common_steps);
       hands_capacity = c.push_reserved.ensures.capacity ∙ before.hands_capacity;
     }
@@ -44,16 +45,17 @@ loop-entry-preserved c =
     let xs = c.loop-entry.live.items in
     let none : c.take_out.result ≡ None = grind (arith, common_steps) in
     let same : without e.when e.number xs ≡ xs = nowhere e.when e.number xs (sym c.take_out.ensures.task ∙ none) in
-    let live = c.take_out.ensures.live ∙ same in
+    let live = c.take_out.ensures.items ∙ same in
     let long = length_permutation _ _ popped.1.0 in
     record {
       hands = rw live before.hands;
       live = rw live before.live;
-      held = rw c.take_out.ensures.live (held-pop _ _ e xs before.held popped.1.0);
+      held = rw c.take_out.ensures.items (held-pop _ _ e xs before.held popped.1.0);
       fewer = omega (arith, long, before.fewer);
       len = grind (arith, common_steps);
       places = before.places ∙ sym c.pop_due.ensures.places;
-      capacity = c.take_out.ensures.capacity ∙ before.capacity;
+      used = omega (arith, c.take_out.ensures.used, before.used);
+      live_places = c.take_out.ensures.places ∙ before.live_places;
       hands_len = grind (arith, common_steps);
       hands_capacity = before.hands_capacity;
     }

@@ -10,10 +10,11 @@ invariant-loop-entry l = record {
   live : later l.now l.live.items ≡ later l.now l.fn.live.items;
   held : Held l.entries.items l.live.items;
   fewer : length l.entries.items ≤ length l.fn.entries.items;
-  len : vec_len l.live ≤ vec_len l.fn.live;
+  len : length l.live.items ≤ length l.fn.live.items;
+  used : l.live.used ≤ l.fn.live.used;
   places : l.fn.entries.places ≡ l.entries.places;
-  capacity : vec_capacity l.live ≡ vec_capacity l.fn.live;
-  hands_len : vec_len l.hands + vec_len l.live ≡ vec_len l.fn.hands + vec_len l.fn.live;
+  live_places : l.live.places ≡ l.fn.live.places;
+  hands_len : vec_len l.hands + length l.live.items ≡ vec_len l.fn.hands + length l.fn.live.items;
   hands_capacity : vec_capacity l.hands ≡ vec_capacity l.fn.hands;
 }
 

@@ -5,4 +5,4 @@ use Rattle.react_timers.proofs.moments.any_insertion_stays.Given as goal
 
 -- no number so far stays
 abbrev pub invariant-loop-op : goal.invariant-loop-op
-invariant-loop-op l = list_any (insertion_passes (stays l.live l.queue)) (take l.op-index l.queue) ≡ false
+invariant-loop-op l = list_any (insertion_passes (stays l.live.items l.queue)) (take l.op-index l.queue) ≡ false

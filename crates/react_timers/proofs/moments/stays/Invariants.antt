@@ -5,4 +5,4 @@ use Rattle.react_timers.proofs.moments.stays.Given as goal
 -- the moment so far and what is left give the moment after all
 abbrev pub invariant-loop-op : goal.invariant-loop-op
 invariant-loop-op l =
-    moment_after_all l.number l.moment (drop l.op-index l.queue) ≡ moment_after_all l.number (moment_of l.number l.live) l.queue
+    moment_after_all l.number l.moment (drop l.op-index l.queue) ≡ moment_after_all l.number (moment_of l.number l.live.items) l.queue
