@@ -16,6 +16,7 @@ use crate::stream::Sink;
 use bus_bulk::{bulk_has_its_sessions, bulk_has_no_poller_fault, bulk_is_a_script, bulk_script};
 use bus_peers::{Scene, ScriptError, ScriptForm};
 use std::alloc::Global;
+use std::mem;
 
 /// Opens so many sessions over the scene of the script that a bulk run has, and writes one line of their endings.
 pub(crate) fn run_bulk<K: Sink>(alloc: Global, sink: &mut K, sessions: u32) -> u8
@@ -40,7 +41,11 @@ pub(crate) fn run_bulk<K: Sink>(alloc: Global, sink: &mut K, sessions: u32) -> u
         return status::OUT_OF_MEMORY;
     };
     match Scene::from_script(alloc, text.as_slice(), ScriptForm::Play) {
-        Ok(played) => perform(alloc, sink, Report::Summary(sessions), played),
+        Ok(played) => {
+            // The scene has what it needs of the text, whose memory the record can use.
+            mem::drop(text);
+            perform(alloc, sink, Report::Summary(sessions), played)
+        }
         Err(ScriptError::Refused { .. }) => unreachable!(),
         Err(ScriptError::OutOfMemory) => status::OUT_OF_MEMORY,
     }

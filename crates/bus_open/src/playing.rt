@@ -29,6 +29,7 @@ use bus_script::printed;
 use react_core::outside::{Event, OutOfMemory};
 use react_core::reactor::Reactor;
 use std::alloc::Global;
+use std::mem;
 
 /// What is written of the sessions that were opened.
 #[derive(Clone, Copy, Debug)]
@@ -185,7 +186,11 @@ pub(crate) fn play<S: Source, K: Sink>(alloc: Global, source: &mut S, sink: &mut
         Err(ReadError::OutOfMemory) => return status::OUT_OF_MEMORY,
     };
     match Scene::from_script(alloc, text.as_slice(), ScriptForm::Play) {
-        Ok(played) => perform(alloc, sink, Report::Whole, played),
+        Ok(played) => {
+            // The scene has what it needs of the text, whose memory the record can use.
+            mem::drop(text);
+            perform(alloc, sink, Report::Whole, played)
+        }
         Err(ScriptError::Refused { line, reason }) => refuse(alloc, sink, line, reason),
         Err(ScriptError::OutOfMemory) => status::OUT_OF_MEMORY,
     }

@@ -1,5 +1,6 @@
 //! What no clause says: that calls succeed, the texts of whole runs, and what comes of streams that fail.
 
+mod again;
 mod deadlines;
 mod dialling;
 mod failing;

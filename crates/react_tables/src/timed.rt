@@ -337,6 +337,30 @@ fn the_last_task_that_polled_is_woken_alone(rt: HostRuntime) -> Result<(), Fail>
     Ok(())
 }
 
+/// A poll that is made again where memory was wanting.
+fn polled(rig: &mut Rig, timer: &mut Timer, now: u64) -> Result<Poll<u64>, ReactError> {
+    match rig.poll(timer, now, 7) {
+        Err(ReactError::OutOfMemory) => rig.poll(timer, now, 7),
+        answer => answer,
+    }
+}
+
+/// No memory is refused here; `bench/refusals` runs this with each growth refused in its turn.
+#[test]
+fn a_poll_that_lacked_memory_goes_on_from_its_moment(rt: HostRuntime) -> Result<(), Fail> {
+    let mut rig = Rig::new(rt.alloc(), 0)?;
+    let mut timer = Timer::interval_at(10, 5);
+    assert_eq!(rt; polled(&mut rig, &mut timer, 12)?, Poll::Ready(10));
+    assert_eq!(rt; polled(&mut rig, &mut timer, 12)?, Poll::Pending);
+    if !rig.takes(&mut timer, Step::SetAt(20)) {
+        assert!(rt; rig.takes(&mut timer, Step::SetAt(20)));
+    }
+    assert_eq!(rt; polled(&mut rig, &mut timer, 20)?, Poll::Ready(20));
+    assert_eq!(rt; polled(&mut rig, &mut timer, 100)?, Poll::Pending);
+    assert!(rt; !timer.will_fire());
+    Ok(())
+}
+
 #[test]
 fn an_ended_timer_wakes_nobody(rt: HostRuntime) -> Result<(), Fail> {
     let alloc = rt.alloc();
